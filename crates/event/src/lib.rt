@@ -1,0 +1,111 @@
+// What the paper names, as types: ranges, events, records, findings, refusals and intervals. The modules give the
+// paper's numbers, the window's rules and the bytes of a record and of a finding.
+pub mod codec; // a record read from bytes, a finding written as bytes
+pub mod numbers; // the paper's number for each case
+pub mod window; // the window's size, its lines, and its limits on ranges
+
+// `length` bytes from `address` on.
+pub struct Range {
+    pub address: u16,
+    pub length: u16,
+}
+
+// The eight kinds of event, in the order of their numbers. Ordered is "A before B".
+pub enum Event {
+    Store(Range),
+    WriteBack(Range),
+    Fence,
+    Begin,
+    Log(Range),
+    End,
+    Persisted(Range),
+    Ordered(Range, Range),
+}
+
+// An event with its site, a number that the tracer chose.
+pub struct Record {
+    pub event: Event,
+    pub site: u16,
+}
+
+// The nine kinds of finding, in the order of their numbers, each with the fields that it has.
+pub enum Finding {
+    None,
+    Holds,
+    Lost {
+        lost: u16,
+        moment: u16,
+        store: u16,
+    },
+    OutOfOrder {
+        lost: u16,
+        kept: u16,
+        moment: u16,
+        store: u16,
+    },
+    Unlogged {
+        lost: u16,
+    },
+    Clean {
+        lost: u16,
+    },
+    WrittenTwice {
+        lost: u16,
+    },
+    LoggedTwice {
+        lost: u16,
+    },
+    Empty,
+}
+
+// A finding's kind and fields as the paper lists them. Fields that its kind does not mention are 0.
+pub struct Fields {
+    pub kind: u8,
+    pub lost: u16,
+    pub kept: u16,
+    pub moment: u16,
+    pub store: u16,
+}
+
+// The fourteen reasons for a refusal, in the order of their numbers.
+pub enum Refusal {
+    TraceTooShort,
+    TraceTooLong,
+    MarkDiffers,
+    BadLines,
+    LengthDiffers,
+    UnknownKind,
+    FieldSet,
+    EmptyRange,
+    PastWindow,
+    EventsExhausted,
+    NoTransaction,
+    TooDeep,
+    TransactionOpen,
+    AreaTooShort,
+}
+
+// What a check of the limits says.
+pub enum Check {
+    Passed,
+    Refused(Refusal),
+}
+
+// A byte's persist interval: none, open since an epoch, or closed, with the epoch that opened it and the one that closed it.
+pub enum Interval {
+    None,
+    Open(u16),
+    Closed(u16, u16),
+}
+
+// What an event that is given gets: a refusal, or its finding.
+pub enum Answer {
+    Refused(Refusal),
+    Found(Finding),
+}
+
+// What reading a record finds.
+pub enum Parsed {
+    Record(Record),
+    Refused(Refusal),
+}

@@ -1,0 +1,127 @@
+// The paper's number for each case of an event, a finding and a refusal.
+use crate::Event;
+use crate::Fields;
+use crate::Finding;
+use crate::Refusal;
+ghost use mathlib.Core.Path.{_≡_};
+ghost use Rattle.event.specs.Numbers.{kindOf, fieldsOf, numberOf};
+
+// The number of an event's kind, 1 to 8.
+pub fn kind(e: Event) -> u8
+    ensures { λ r. ⌜ r ≡ kindOf e ⌝ }
+{
+    match e {
+        Event::Store(_) => 1,
+        Event::WriteBack(_) => 2,
+        Event::Fence => 3,
+        Event::Begin => 4,
+        Event::Log(_) => 5,
+        Event::End => 6,
+        Event::Persisted(_) => 7,
+        Event::Ordered(_, _) => 8,
+    }
+}
+
+// A finding's kind and fields.
+pub fn fields(f: Finding) -> Fields
+    ensures { λ r. ⌜ r ≡ fieldsOf f ⌝ }
+{
+    match f {
+        Finding::None => Fields {
+            kind: 0,
+            lost: 0,
+            kept: 0,
+            moment: 0,
+            store: 0,
+        },
+        Finding::Holds => Fields {
+            kind: 1,
+            lost: 0,
+            kept: 0,
+            moment: 0,
+            store: 0,
+        },
+        Finding::Lost {
+            lost,
+            moment,
+            store,
+        } => Fields {
+            kind: 2,
+            lost: lost,
+            kept: 0,
+            moment: moment,
+            store: store,
+        },
+        Finding::OutOfOrder {
+            lost,
+            kept,
+            moment,
+            store,
+        } => {
+            Fields {
+                kind: 3,
+                lost: lost,
+                kept: kept,
+                moment: moment,
+                store: store,
+            }
+        }
+        Finding::Unlogged { lost } => Fields {
+            kind: 4,
+            lost: lost,
+            kept: 0,
+            moment: 0,
+            store: 0,
+        },
+        Finding::Clean { lost } => Fields {
+            kind: 5,
+            lost: lost,
+            kept: 0,
+            moment: 0,
+            store: 0,
+        },
+        Finding::WrittenTwice { lost } => Fields {
+            kind: 6,
+            lost: lost,
+            kept: 0,
+            moment: 0,
+            store: 0,
+        },
+        Finding::LoggedTwice { lost } => Fields {
+            kind: 7,
+            lost: lost,
+            kept: 0,
+            moment: 0,
+            store: 0,
+        },
+        Finding::Empty => Fields {
+            kind: 8,
+            lost: 0,
+            kept: 0,
+            moment: 0,
+            store: 0,
+        },
+    }
+}
+
+// A refusal's number, 1 to 14.
+pub fn number(r: Refusal) -> u8
+    ensures { λ n. ⌜ n ≡ numberOf r ⌝ }
+{
+    match r {
+        Refusal::TraceTooShort => 1,
+        Refusal::TraceTooLong => 2,
+        Refusal::MarkDiffers => 3,
+        Refusal::BadLines => 4,
+        Refusal::LengthDiffers => 5,
+        Refusal::UnknownKind => 6,
+        Refusal::FieldSet => 7,
+        Refusal::EmptyRange => 8,
+        Refusal::PastWindow => 9,
+        Refusal::EventsExhausted => 10,
+        Refusal::NoTransaction => 11,
+        Refusal::TooDeep => 12,
+        Refusal::TransactionOpen => 13,
+        Refusal::AreaTooShort => 14,
+    }
+}
