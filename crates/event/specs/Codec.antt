@@ -39,7 +39,7 @@ isZero r = eqb (r .address) 0 && eqb (r .length) 0
 
 -- the zero byte and the fields that the kind lacks are 0
 abbrev pub isClear : ℕ → ℕ → Range → Range → Bool
-isClear kind zero a b = eqb zero 0 && (usesA kind || isZero a) && (usesB kind || isZero b)
+isClear kind zeroByte a b = eqb zeroByte 0 && (usesA kind || isZero a) && (usesB kind || isZero b)
 
 -- the event of a kind from 1 to 8
 abbrev pub eventOf : ℕ → Range → Range → Event

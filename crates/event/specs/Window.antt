@@ -45,6 +45,10 @@ isEmpty r = eqb (r .length) 0
 abbrev pub touches : Range → ℕ → Bool
 touches r line = not (isEmpty r) && leb (lineOf (r .address)) line && leb line (lineOf (rangeEnd r - 1))
 
+-- how many lines the range touches, from that of its first byte on
+abbrev pub lineCount : Range → ℕ
+lineCount r = cond (isEmpty r) 0 (lineOf (rangeEnd r - 1) + 1 - lineOf (r .address))
+
 -- the range runs past the window
 abbrev pub isPast : ℕ → Range → Bool
 isPast lines r = ltb (windowBytes lines) (rangeEnd r)

@@ -7,6 +7,7 @@ use crate::Record;
 use crate::Refusal;
 use crate::numbers;
 ghost use mathlib.Core.Path.{_≡_};
+ghost use mathlib.Core.Bool.{_||_};
 ghost use Prim.Native.Nat.{_+_, _*_};
 ghost use lib.ListN.{getD};
 ghost use Rattle.event.specs.Codec.{u16At, rangeAt, isKind, usesA, usesB, isZero, isClear, eventOf, parsed, findingBytes};
@@ -30,7 +31,9 @@ pub fn u16_at(s: &[u8], at: usize) -> u16
     ensures { λ r. ⌜ r ≡ u16At (now (s .entry)) at ⌝ }
 {
     if at < s.len() {
-        joined(byte_at(s, at), byte_at(s, at + 1))
+        let low = byte_at(s, at);
+        let high = byte_at(s, at + 1);
+        joined(low, high)
     } else {
         0
     }
@@ -75,11 +78,18 @@ fn uses_b(kind: u8) -> bool
     kind == 8
 }
 
+// Whether a range is used or both its fields are 0.
+fn used_or_zero(used: bool, r: Range) -> bool
+    ensures { λ t. ⌜ t ≡ (used || isZero r) ⌝ }
+{
+    used || is_zero(r)
+}
+
 // Whether the zero byte and the fields that the kind lacks are 0.
 fn is_clear(kind: u8, zero: u8, a: Range, b: Range) -> bool
     ensures { λ t. ⌜ t ≡ isClear kind zero a b ⌝ }
 {
-    zero == 0 && (uses_a(kind) || is_zero(a)) && (uses_b(kind) || is_zero(b))
+    zero == 0 && used_or_zero(uses_a(kind), a) && used_or_zero(uses_b(kind), b)
 }
 
 // The event of a kind from 1 to 8.

@@ -22,35 +22,36 @@ pub fn kind(e: Event) -> u8
     }
 }
 
+// The fields of a finding that has lost alone, or none of them.
+fn only_lost(kind: u8, lost: u16) -> Fields
+    ensures { λ r. ⌜ r ≡ record { kind = kind; lost = lost; kept = 0; moment = 0; store = 0 } ⌝ }
+{
+    Fields {
+        kind,
+        lost,
+        kept: 0,
+        moment: 0,
+        store: 0,
+    }
+}
+
 // A finding's kind and fields.
 pub fn fields(f: Finding) -> Fields
     ensures { λ r. ⌜ r ≡ fieldsOf f ⌝ }
 {
     match f {
-        Finding::None => Fields {
-            kind: 0,
-            lost: 0,
-            kept: 0,
-            moment: 0,
-            store: 0,
-        },
-        Finding::Holds => Fields {
-            kind: 1,
-            lost: 0,
-            kept: 0,
-            moment: 0,
-            store: 0,
-        },
+        Finding::None => only_lost(0, 0),
+        Finding::Holds => only_lost(1, 0),
         Finding::Lost {
             lost,
             moment,
             store,
         } => Fields {
             kind: 2,
-            lost: lost,
+            lost,
             kept: 0,
-            moment: moment,
-            store: store,
+            moment,
+            store,
         },
         Finding::OutOfOrder {
             lost,
@@ -60,47 +61,17 @@ pub fn fields(f: Finding) -> Fields
         } => {
             Fields {
                 kind: 3,
-                lost: lost,
-                kept: kept,
-                moment: moment,
-                store: store,
+                lost,
+                kept,
+                moment,
+                store,
             }
         }
-        Finding::Unlogged { lost } => Fields {
-            kind: 4,
-            lost: lost,
-            kept: 0,
-            moment: 0,
-            store: 0,
-        },
-        Finding::Clean { lost } => Fields {
-            kind: 5,
-            lost: lost,
-            kept: 0,
-            moment: 0,
-            store: 0,
-        },
-        Finding::WrittenTwice { lost } => Fields {
-            kind: 6,
-            lost: lost,
-            kept: 0,
-            moment: 0,
-            store: 0,
-        },
-        Finding::LoggedTwice { lost } => Fields {
-            kind: 7,
-            lost: lost,
-            kept: 0,
-            moment: 0,
-            store: 0,
-        },
-        Finding::Empty => Fields {
-            kind: 8,
-            lost: 0,
-            kept: 0,
-            moment: 0,
-            store: 0,
-        },
+        Finding::Unlogged { lost } => only_lost(4, lost),
+        Finding::Clean { lost } => only_lost(5, lost),
+        Finding::WrittenTwice { lost } => only_lost(6, lost),
+        Finding::LoggedTwice { lost } => only_lost(7, lost),
+        Finding::Empty => only_lost(8, 0),
     }
 }
 

@@ -4,7 +4,8 @@ use crate::Event;
 use crate::Range;
 use crate::Refusal;
 ghost use mathlib.Core.Path.{_≡_};
-ghost use Rattle.event.specs.Window.{windowBytes, lineOf, lineStart, rangeEnd, covers, isEmpty, touches, isPast, rangeCheck, linesCheck};
+ghost use mathlib.Core.Bool.{cond};
+ghost use Rattle.event.specs.Window.{windowBytes, lineOf, lineStart, rangeEnd, covers, isEmpty, touches, lineCount, isPast, rangeCheck, linesCheck};
 
 // The start address of each line of the largest window.
 const LINE_STARTS: [u16; 64] = [
@@ -132,6 +133,18 @@ pub fn range_touches(r: Range, line: u16) -> bool
     r.address / 64 <= line && (line as u32) <= last
 }
 
+// How many lines the range touches.
+pub fn line_count(r: Range) -> u16
+    ensures { λ n. ⌜ n ≡ lineCount r ⌝ }
+{
+    if r.length == 0 {
+        return 0;
+    }
+    let last = (range_end(r) - 1) / 64;
+    let first = (r.address as u32) / 64;
+    (last + 1 - first) as u16
+}
+
 // Whether the range runs past the window.
 pub fn is_past(lines: u16, r: Range) -> bool
     ensures { λ t. ⌜ t ≡ isPast lines r ⌝ }
@@ -139,30 +152,34 @@ pub fn is_past(lines: u16, r: Range) -> bool
     window_bytes(lines) < range_end(r)
 }
 
+// The limits 8 and 9, in this order.
+fn limits(empty: bool, past: bool) -> Check
+    ensures { λ c. ⌜ c ≡ cond empty (Check.Refused Refusal.EmptyRange) (cond past (Check.Refused Refusal.PastWindow) Check.Passed) ⌝ }
+{
+    if empty {
+        return Check::Refused(Refusal::EmptyRange);
+    }
+    if past {
+        return Check::Refused(Refusal::PastWindow);
+    }
+    Check::Passed
+}
+
 // The limits 8 and 9 on one range.
 fn check_one(lines: u16, r: Range) -> Check
     ensures { λ c. ⌜ c ≡ rangeCheck lines (Event.Store r) ⌝ }
 {
-    if is_empty(r) {
-        return Check::Refused(Refusal::EmptyRange);
-    }
-    if is_past(lines, r) {
-        return Check::Refused(Refusal::PastWindow);
-    }
-    Check::Passed
+    limits(is_empty(r), is_past(lines, r))
 }
 
 // The limits 8 and 9 on two ranges.
 fn check_two(lines: u16, a: Range, b: Range) -> Check
     ensures { λ c. ⌜ c ≡ rangeCheck lines (Event.Ordered a b) ⌝ }
 {
-    if is_empty(a) || is_empty(b) {
-        return Check::Refused(Refusal::EmptyRange);
-    }
-    if is_past(lines, a) || is_past(lines, b) {
-        return Check::Refused(Refusal::PastWindow);
-    }
-    Check::Passed
+    limits(
+        is_empty(a) || is_empty(b),
+        is_past(lines, a) || is_past(lines, b),
+    )
 }
 
 // The limits 8 and 9 on the ranges that an event uses.
@@ -170,10 +187,9 @@ pub fn check_ranges(lines: u16, e: Event) -> Check
     ensures { λ c. ⌜ c ≡ rangeCheck lines e ⌝ }
 {
     match e {
-        Event::Store(a) => check_one(lines, a),
-        Event::WriteBack(a) => check_one(lines, a),
-        Event::Log(a) => check_one(lines, a),
-        Event::Persisted(a) => check_one(lines, a),
+        Event::Store(a) | Event::WriteBack(a) | Event::Log(a) | Event::Persisted(a) => {
+            check_one(lines, a)
+        }
         Event::Ordered(a, b) => check_two(lines, a, b),
         Event::Fence => Check::Passed,
         Event::Begin => Check::Passed,

@@ -1,0 +1,241 @@
+-- The computed finding of an event meets its claim.
+use mathlib.Core.Path.{_≡_, refl, sym, ap, subst, subst₂, _∙_}
+use mathlib.Core.Bool.{Bool, true, false, cond, not, _&&_, _||_}
+use mathlib.Core.Logic.{_≢_, _⊎_, inl, inr, ⊎-elim}
+use mathlib.Core.List.{List, [], _∷_}
+use mathlib.Core.Option.{Option, none, some}
+use Prim.Native.Nat.{ℕ, zero, suc, _+_, _≤_, _<_}
+use native.Mathlib.Omega.{arith}
+use native.Mathlib.Decide.{ℕ-discrete as decEq}
+use lib.Dec.{eqb, leb, ltb}
+use lib.ListN.{length}
+use borrow.Author.Tests.{not-true, eqb-true, eqb-false, eq-eqb, ne-eqb, ltb-true, lt-ltb}
+use Rattle.event.specs.declared.Range.{Range}
+use Rattle.event.specs.declared.Event.{Event}
+use Rattle.event.specs.declared.Event.the-variants.{Store, WriteBack, Fence, Begin, Log, End, Persisted, Ordered}
+use Rattle.event.specs.declared.Record.{Record}
+use Rattle.event.specs.declared.Finding.{Finding}
+use Rattle.event.specs.declared.Finding.the-variants.{None, Holds, Lost, OutOfOrder, Unlogged, Clean, WrittenTwice, LoggedTwice, Empty}
+use Rattle.event.specs.Window.{windowBytes, lineOf, lineStart, lineCount, covers, touches}
+use Rattle.history.specs.Count.{last}
+use Rattle.history.specs.History.{History, is, stores, storesByte, storesLine, writesBackLine, logsByte}
+use Rattle.history.specs.Interval.{lastStore, intervalOf}
+use Rattle.history.specs.Transaction.{depth, outermost, Since}
+use Rattle.history.specs.View.{View, ofHistory}
+use Rattle.history.specs.Broken.{PersistedBroken, OrderedBroken}
+use Rattle.history.specs.Found.{lowest, lowestIn, foundOr, logged, unlogged, clean, writtenTwice, warnedLine, atRisk, storedSince, durable, breaks, lowestPair, inOrder, ended, findingBy, Pair}
+use Rattle.history.specs.Assertion.{Lowest, Shown, BrokenByte, Persists, BrokenPair, HasPartner, Orders}
+use Rattle.history.specs.Warning.{Warned, UnloggedByte, LoggedByte, NeverStored, NotSince, Wasted, WrittenBack}
+use Rattle.history.specs.Claim.{Ended, ClaimOf, Claim}
+use Rattle.event.proofs.Bools.{clash, fails, fails-not, not-of, and-left, and-right, both, or-cases, or-left, or-right}
+use Rattle.history.proofs.History.{is-last, is-latest, is-some}
+use Rattle.event.proofs.Pins.{covered, covering, touched, touched-below, below-touched}
+use Rattle.history.proofs.Search.{Least, Decides, least, LeastPair, least-pair}
+use Rattle.history.proofs.Image.{Risk, risk-allowed, risk-loses, risk-broken, broken-risk, PairRisk, pair-risk, pair-kept, pair-broken, broken-pair}
+use Rattle.history.proofs.Interval.{last-store-within}
+use Rattle.history.proofs.Tests.{not-zero, zero-not, open-risk, risk-open, breaks-risk, risk-breaks}
+use Rattle.history.proofs.Quiet.{Quiet, quiet-last-store, quiet-interval}
+use native.Mathlib.Nat.{le-refl}
+use Rattle.history.specs.Found.{isOpen}
+
+-- a warning is of the lowest number
+warned : {P : ℕ → Type 0} {warning : ℕ → Finding} (o : Option ℕ) → Least P o → Warned P warning (foundOr o None warning)
+warned none (Least.absent f) = Warned.quiet f
+warned (some x) (Least.present l) = Warned.warns l
+
+module _ (lines : ℕ) (h : History) where
+  -- the last event that passes is since the outermost begin exactly if some such event is
+  since-is : (p : Event → Bool) → ltb (outermost h) (last (is p h) (length h)) ≡ true → Since h p
+  since-is p e =
+      let later = ltb-true (outermost h) (last (is p h) (length h)) e in
+      record { number = last (is p h) (length h); later = later; passes = is-last p h (λ z. omega (arith, later, z)) }
+
+  is-since : (p : Event → Bool) → Since h p → ltb (outermost h) (last (is p h) (length h)) ≡ true
+  is-since p x = lt-ltb (outermost h) _ (omega (arith, x .later, is-latest p h (x .number) (x .passes)))
+
+  store-decides : (a : Range) → Decides (unlogged (ofHistory lines h)) (UnloggedByte h a) (a .address) (a .length)
+  store-decides a =
+      record {
+        sound = λ b from to e.
+            record {
+              covered = covering a b from to;
+              inside = not-zero (depth h) (and-left (not (eqb (depth h) 0)) (not (logged (ofHistory lines h) b)) e);
+              unlogged = λ s. clash (is-since (logsByte b) s) (not-true (logged (ofHistory lines h) b) (and-right (not (eqb (depth h) 0)) (not (logged (ofHistory lines h) b)) e));
+            };
+        complete = λ b y. both (zero-not (depth h) (y .inside)) (not-of (fails _ (λ e. y .unlogged (since-is (logsByte b) e))));
+        from = λ b y. covered a b (y .covered) .from;
+        to = λ b y. covered a b (y .covered) .to;
+      }
+
+  log-decides : (a : Range) → Decides (logged (ofHistory lines h)) (LoggedByte h a) (a .address) (a .length)
+  log-decides a =
+      record {
+        sound = λ b from to e. record { covered = covering a b from to; logged = since-is (logsByte b) e };
+        complete = λ b y. is-since (logsByte b) (y .logged);
+        from = λ b y. covered a b (y .covered) .from;
+        to = λ b y. covered a b (y .covered) .to;
+      }
+
+  -- a line that was never stored to has no last store
+  clean-never : (l : ℕ) → clean (ofHistory lines h) l ≡ true → NeverStored h l
+  clean-never l e s t = is-some (storesLine l) h s t (eqb-true _ _ e)
+
+  never-clean : (l : ℕ) → NeverStored h l → clean (ofHistory lines h) l ≡ true
+  never-clean l f = fails-not _ (λ z. f _ (is-last (storesLine l) h (eqb-false _ 0 z)))
+
+  not-clean : (l : ℕ) → NotSince h l → clean (ofHistory lines h) l ≡ false
+  not-clean l x = ne-eqb _ 0 (is-some (storesLine l) h (x .store) (x .isStore))
+
+  -- a line stored to, but not since its last write-back
+  twice-not-since : (l : ℕ) → writtenTwice (ofHistory lines h) l ≡ true → NotSince h l
+  twice-not-since l e =
+      let store = last (is (storesLine l) h) (length h) in
+      let back = last (is (writesBackLine l) h) (length h) in
+      let less = ltb-true store back (and-right (not (eqb store 0)) (ltb store back) e) in
+      record {
+        store = store;
+        isStore = is-last (storesLine l) h (not-zero store (and-left (not (eqb store 0)) (ltb store back) e));
+        back = back;
+        isBack = is-last (writesBackLine l) h (λ z. omega (arith, less, z));
+        older = λ s t. omega (arith, less, is-latest (storesLine l) h s t);
+      }
+
+  not-since-twice : (l : ℕ) → NotSince h l → writtenTwice (ofHistory lines h) l ≡ true
+  not-since-twice l x =
+      let store = last (is (storesLine l) h) (length h) in
+      let back = last (is (writesBackLine l) h) (length h) in
+      let less : store < back = omega (arith, x .older store (is-last (storesLine l) h (is-some (storesLine l) h (x .store) (x .isStore))), is-latest (writesBackLine l) h (x .back) (x .isBack)) in
+      both (not-of (not-clean l x)) (lt-ltb store back less)
+
+  back-decides : (a : Range) → Decides (λ l. clean (ofHistory lines h) l || writtenTwice (ofHistory lines h) l) (Wasted h a) (lineOf (a .address)) (lineCount a)
+  back-decides a =
+      record {
+        sound = λ l from to e.
+            record {
+              touched = below-touched a l from to;
+              fits = ⊎-elim (λ k. inl (clean-never l k)) (λ k. inr (twice-not-since l k)) (or-cases (clean (ofHistory lines h) l) (writtenTwice (ofHistory lines h) l) e);
+            };
+        complete = λ l y.
+            ⊎-elim (λ k. or-left (writtenTwice (ofHistory lines h) l) (never-clean l k)) (λ k. or-right (clean (ofHistory lines h) l) (not-since-twice l k)) (y .fits);
+        from = λ l y. touched a l (y .touched) .from;
+        to = λ l y. touched-below a l (y .touched);
+      }
+
+  written-back : (a : Range) (o : Option ℕ) → Least (Wasted h a) o → WrittenBack h a (foundOr o None (warnedLine (ofHistory lines h)))
+  written-back a none (Least.absent f) = WrittenBack.useful f
+  written-back a (some l) (Least.present x) = ⊎-elim never since (x .has .fits)
+    where
+      never : NeverStored h l → WrittenBack h a (warnedLine (ofHistory lines h) l)
+      never k = rw (never-clean l k) (WrittenBack.clean x k)
+
+      since : NotSince h l → WrittenBack h a (warnedLine (ofHistory lines h) l)
+      since k = rw (not-clean l k) (WrittenBack.twice x k)
+
+-- every store that was accepted lies in the window
+abbrev pub Inside : ℕ → History → Type 0
+Inside lines h = (s b : ℕ) → is (storesByte b) h s ≡ true → b < windowBytes lines
+
+quiet-by : {d e : Event} → d ≡ e → Quiet e → Quiet d
+quiet-by k q = subst (λ (x : Event). Quiet x) (sym k) q
+
+-- an assertion, or an end, that follows h
+module _ (lines : ℕ) (h : History) (r : Record) (q : Quiet (r .event)) where
+  abbrev now : History
+  now = r ∷ h
+
+  abbrev n : ℕ
+  n = suc (length h)
+
+  -- a byte is broken exactly if its interval is open
+  open-broken : (b : ℕ) → atRisk (ofHistory lines h) b ≡ true → PersistedBroken now n b
+  open-broken b e = risk-broken now b n (le-refl n) (open-risk now b (ap isOpen (quiet-interval r h q b) ∙ e))
+
+  broken-open : (b : ℕ) → PersistedBroken now n b → atRisk (ofHistory lines h) b ≡ true
+  broken-open b x = ap isOpen (sym (quiet-interval r h q b)) ∙ risk-open now b (broken-risk now b n x)
+
+  -- the image meant shows a loss that is possible at moment m
+  shown : (b m : ℕ) → Risk now b m → m ≤ n → Shown now m b
+  shown b m x k = record { allowed = risk-allowed now b m x k; loses = risk-loses now b m x }
+
+  durable-meets : (B : ℕ → Type 0) (o : Option ℕ) → Least (BrokenByte now n B) o → Persists now n B (durable (ofHistory lines h) o)
+  durable-meets B none (Least.absent f) = Persists.holds f
+  durable-meets B (some b) (Least.present x) =
+      subst (λ (s : ℕ). Persists now n B (Lost b n s)) (quiet-last-store r h q b)
+      (Persists.lost x (shown b n (broken-risk now b n (x .has .broken)) (le-refl n)))
+
+  persisted-decides : (a : Range) → Decides (atRisk (ofHistory lines h)) (BrokenByte now n (λ b. covers a b ≡ true)) (a .address) (a .length)
+  persisted-decides a =
+      record {
+        sound = λ b from to e. record { judged = covering a b from to; broken = open-broken b e };
+        complete = λ b y. broken-open b (y .broken);
+        from = λ b y. covered a b (y .judged) .from;
+        to = λ b y. covered a b (y .judged) .to;
+      }
+
+  breaks-now : (kept lost : ℕ) → breaks (ofHistory lines now) kept lost ≡ breaks (ofHistory lines h) kept lost
+  breaks-now kept lost = simp (quiet-last-store r h q, quiet-interval r h q)
+
+  ordered-decides : (a b : Range) (kept : ℕ) → covers b kept ≡ true → Decides (breaks (ofHistory lines h) kept) (BrokenPair now n a b kept) (a .address) (a .length)
+  ordered-decides a b kept c =
+      record {
+        sound = λ lost from to e. record { inB = c; inA = covering a lost from to; broken = pair-broken now n (le-refl n) (breaks-risk now lines kept lost (breaks-now kept lost ∙ e)) };
+        complete = λ lost y. sym (breaks-now kept lost) ∙ risk-breaks now lines kept lost (broken-pair now (y .broken));
+        from = λ lost y. covered a lost (y .inA) .from;
+        to = λ lost y. covered a lost (y .inA) .to;
+      }
+
+  in-order : (a b : Range) (o : Option Pair) → LeastPair (BrokenPair now n a b) o → Orders now n a b (inOrder (ofHistory lines h) o)
+  in-order a b none (LeastPair.absent f) = Orders.holds f
+  in-order a b (some p) (LeastPair.present {kept = kept} {lost = lost} x y) =
+      let risk : PairRisk now kept lost = broken-pair now (y .has .broken) in
+      subst₂ (λ (s t : ℕ). Orders now n a b (OutOfOrder lost kept s t)) (quiet-last-store r h q kept) (quiet-last-store r h q lost)
+      (Orders.outOfOrder x y (shown lost (lastStore now kept) (pair-risk now risk) (last-store-within now kept)) (pair-kept now risk))
+
+  ended-decides : Inside lines h → Decides (λ b. storedSince (ofHistory lines h) b && atRisk (ofHistory lines h) b) (BrokenByte now n (λ b. Since h (storesByte b))) 0 (windowBytes lines)
+  unfolding lastStore
+  ended-decides inside =
+      record {
+        sound = λ b from to e.
+            record {
+              judged = since-is lines h (storesByte b) (and-left (storedSince (ofHistory lines h) b) (atRisk (ofHistory lines h) b) e);
+              broken = open-broken b (and-right (storedSince (ofHistory lines h) b) (atRisk (ofHistory lines h) b) e);
+            };
+        complete = λ b y. both (is-since lines h (storesByte b) (y .judged)) (broken-open b (y .broken));
+        from = λ b y. omega arith;
+        to = λ b y. omega (arith, inside (y .judged .number) b (y .judged .passes));
+      }
+
+  ended-meets : Inside lines h → Ended h now n (cond (eqb (depth h) 1) (ended (ofHistory lines h)) None)
+  ended-meets inside = go (eqb (depth h) 1) refl (ltb (outermost h) (last (is stores h) (length h))) refl
+    where
+      judged : Finding
+      judged = durable (ofHistory lines h) (lowest (λ b. storedSince (ofHistory lines h) b && atRisk (ofHistory lines h) b) 0 (windowBytes lines))
+
+      go : (b : Bool) → eqb (depth h) 1 ≡ b → (c : Bool) → ltb (outermost h) (last (is stores h) (length h)) ≡ c → Ended h now n (cond b (cond c judged Empty) None)
+      go true e true s = Ended.outermost (eqb-true (depth h) 1 e) (since-is lines h stores s) (durable-meets (λ b. Since h (storesByte b)) _ (least _ _ 0 (windowBytes lines) (ended-decides inside)))
+      go true e false s = Ended.empty (eqb-true (depth h) 1 e) (λ x. clash (is-since lines h stores x) s)
+      go false e c s = Ended.inner (eqb-false (depth h) 1 e)
+
+-- the finding of each kind of event
+meets : (lines : ℕ) (h : History) → Inside lines h → (r : Record) (e : Event) → r .event ≡ e → ClaimOf h (r ∷ h) (suc (length h)) e (findingBy (ofHistory lines h) e)
+unfolding findingBy
+meets lines h inside r (Store a) k = warned _ (least _ _ (a .address) (a .length) (store-decides lines h a))
+meets lines h inside r (WriteBack a) k = written-back lines h a _ (least _ _ (lineOf (a .address)) (lineCount a) (back-decides lines h a))
+meets lines h inside r Fence k = refl
+meets lines h inside r Begin k = refl
+meets lines h inside r (Log a) k = warned _ (least _ _ (a .address) (a .length) (log-decides lines h a))
+meets lines h inside r End k = ended-meets lines h r (quiet-by k (record { noStore = refl; noBack = refl; noFence = refl })) inside
+meets lines h inside r (Persisted a) k =
+    let q = quiet-by k (record { noStore = refl; noBack = refl; noFence = refl }) in
+    durable-meets lines h r q (λ b. covers a b ≡ true) _ (least _ _ (a .address) (a .length) (persisted-decides lines h r q a))
+meets lines h inside r (Ordered a b) k =
+    let q = quiet-by k (record { noStore = refl; noBack = refl; noFence = refl }) in
+    in-order lines h r q a b _
+    (least-pair (breaks (ofHistory lines h)) a (BrokenPair (r ∷ h) (suc (length h)) a b) (b .address) (b .length)
+    (λ kept from to. least _ _ (a .address) (a .length) (ordered-decides lines h r q a b kept (covering b kept from to)))
+    (λ kept lost y. covered b kept (y .inB) .from)
+    (λ kept lost y. covered b kept (y .inB) .to))
+
+-- the computed finding of an event after a history meets its claim
+pub finding-claim : (lines : ℕ) (h : History) → Inside lines h → (r : Record) → Claim h r (findingBy (ofHistory lines h) (r .event))
+finding-claim lines h inside r = meets lines h inside r (r .event) refl

@@ -1,0 +1,13 @@
+pub mod Count
+pub mod History
+pub mod Window
+pub mod Interval
+pub mod Image
+pub mod Search
+pub mod Tests
+pub mod Quiet
+pub mod Claim
+pub mod Unique
+pub mod Given
+pub mod Pins
+pub mod Small

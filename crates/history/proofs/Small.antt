@@ -1,0 +1,15 @@
+-- The starred small runs: the answers are those of document 01.
+use mathlib.Core.Path.{_≡_, refl}
+use mathlib.Core.List.{[], map}
+use Rattle.history.specs.Count.{count, last, first}
+use Rattle.history.specs.History.{is}
+use Rattle.history.specs.Interval.{epochAt, lastStore, backAfter, fenceAfter, intervalOf}
+use Rattle.history.specs.Transaction.{depth, outermost}
+use Rattle.history.specs.Found.{lowest, lowestPair, findingBy}
+use Rattle.history.specs.Refused.{refusalBy}
+use Rattle.history.specs.Given.{answerOf, answers}
+use Rattle.history.specs.Small.{SmallRun, smallRuns, recordsOf, foundAll}
+
+pub small-runs : map (λ (run : SmallRun). answers 2 [] (recordsOf (run .given))) smallRuns ≡ map (λ (run : SmallRun). foundAll (run .findings)) smallRuns
+unfolding count last first is epochAt lastStore backAfter fenceAfter intervalOf depth outermost lowest lowestPair findingBy refusalBy answerOf answers
+small-runs = refl

@@ -1,0 +1,119 @@
+-- The tests that a finding is computed by say what crash images say.
+use mathlib.Core.Path.{_≡_, refl, sym, ap, subst, _∙_}
+use mathlib.Core.Bool.{Bool, true, false, cond, not, _&&_}
+use mathlib.Core.Logic.{_≢_, _⊎_, inl, inr, ⊎-elim}
+use Prim.Native.Nat.{ℕ, zero, suc, _≤_, _<_}
+use native.Mathlib.Omega.{arith}
+use native.Mathlib.Decide.{decLe, ℕ-discrete as decEq}
+use lib.Dec.{eqb, leb, ltb}
+use lib.ListN.{length}
+use borrow.Author.Tests.{eqb-true, eqb-false, eq-eqb, ne-eqb, leb-true, leb-false, le-leb, lt-leb, ltb-true, lt-ltb}
+use Rattle.event.specs.declared.Interval.{Interval}
+use Rattle.event.specs.declared.Interval.the-variants.{None, Open, Closed}
+use Rattle.event.specs.Window.{lineOf}
+use Rattle.history.specs.Count.{count}
+use Rattle.history.specs.History.{History, is, fences}
+use Rattle.history.specs.Interval.{epochAt, lastStore, fenceAfter, intervalOf}
+use Rattle.history.specs.View.{View, ofHistory}
+use Rattle.history.specs.Found.{isOpen, closedBy, atRisk, breaks}
+use Rattle.history.specs.Image.{Forced}
+use Rattle.event.proofs.Bools.{clash, fails, not-of, and-left, and-right, both}
+use Rattle.history.proofs.Count.{count-mono, count-less}
+use Rattle.history.proofs.History.{is-number}
+use Rattle.history.proofs.Interval.{interval-none, interval-open, interval-closed, closing-fence, Closes, forced-closes, closes-forced}
+use Rattle.history.proofs.Image.{Risk, PairRisk}
+
+-- a number that is not 0
+pub not-zero : (n : ℕ) → not (eqb n 0) ≡ true → n ≢ 0
+not-zero n e z = clash (rw (eq-eqb n 0 z) at e) refl
+
+pub zero-not : (n : ℕ) → n ≢ 0 → not (eqb n 0) ≡ true
+zero-not n f = rw (ne-eqb n 0 f)
+
+module _ (h : History) where
+  -- an open interval is a last store that nothing forces by the list's end
+  pub open-risk : (b : ℕ) → isOpen (intervalOf h b) ≡ true → Risk h b (length h)
+  open-risk b e = go (decEq (lastStore h b) 0) (decEq (fenceAfter h (lineOf b) (lastStore h b)) 0)
+    where
+      go : Dec (lastStore h b ≡ 0) → Dec (fenceAfter h (lineOf b) (lastStore h b) ≡ 0) → Risk h b (length h)
+      go (yes z) d = absurd (clash (rw (interval-none h b z) at e) refl)
+      go (no s) (yes z) = record { stored = s; free = λ f. forced-closes h f .there z }
+      go (no s) (no z) = absurd (clash (rw (interval-closed h b s z) at e) refl)
+
+  pub risk-open : (b : ℕ) → Risk h b (length h) → isOpen (intervalOf h b) ≡ true
+  risk-open b x = go (decEq (fenceAfter h (lineOf b) (lastStore h b)) 0)
+    where
+      go : Dec (fenceAfter h (lineOf b) (lastStore h b) ≡ 0) → isOpen (intervalOf h b) ≡ true
+      go (yes z) = rw (interval-open h b (x .stored) z)
+      go (no z) = absurd (x .free (closes-forced h (record { there = z; by = is-number fences h (fenceAfter h (lineOf b) (lastStore h b)) (closing-fence h (lineOf b) (lastStore h b) z) .within })))
+
+  -- a fence has happened by event m exactly if its epoch has begun by then
+  fence-by : (f m : ℕ) → is fences h f ≡ true → epochAt h f ≤ epochAt h m → f ≤ m
+  unfolding epochAt
+  fence-by f m t k = go (decLe f m)
+    where
+      go : Dec (f ≤ m) → f ≤ m
+      go (yes j) = j
+      go (no j) = absurd (omega (arith, count-less (is fences h) m f (omega arith) t))
+
+  by-fence : (f m : ℕ) → f ≤ m → epochAt h f ≤ epochAt h m
+  unfolding epochAt
+  by-fence f m k = count-mono (is fences h) f m k
+
+  -- the second interval of the test opens at the epoch of its byte's last store
+  closed-by-kept : (kept e f : ℕ) → lastStore h kept ≢ 0 → closedBy (Closed e f) (intervalOf h kept) ≡ leb f (epochAt h (lastStore h kept))
+  closed-by-kept kept e f s = go (decEq (fenceAfter h (lineOf kept) (lastStore h kept)) 0)
+    where
+      go : Dec (fenceAfter h (lineOf kept) (lastStore h kept) ≡ 0) → closedBy (Closed e f) (intervalOf h kept) ≡ leb f (epochAt h (lastStore h kept))
+      go (yes z) = rw (interval-open h kept s z)
+      go (no z) = rw (interval-closed h kept s z)
+
+  module _ (kept lost : ℕ) (keptStored : lastStore h kept ≢ 0) (lostStored : lastStore h lost ≢ 0) where
+    abbrev closing : ℕ
+    closing = fenceAfter h (lineOf lost) (lastStore h lost)
+
+    closed-test : closing ≢ 0 → closedBy (intervalOf h lost) (intervalOf h kept) ≡ leb (epochAt h closing) (epochAt h (lastStore h kept))
+    closed-test z = rw (interval-closed h lost lostStored z) (closed-by-kept kept (epochAt h (lastStore h lost)) (epochAt h closing) keptStored)
+
+    -- the lost byte's interval is closed by the kept byte's epoch exactly if its last store is forced by the kept one
+    closed-forced : closedBy (intervalOf h lost) (intervalOf h kept) ≡ true → Forced h (lineOf lost) (lastStore h lost) (lastStore h kept)
+    closed-forced e = go (decEq closing 0)
+      where
+        go : Dec (closing ≡ 0) → Forced h (lineOf lost) (lastStore h lost) (lastStore h kept)
+        go (yes z) = absurd (clash (rw (interval-open h lost lostStored z) at e) refl)
+        go (no z) = closes-forced h (record { there = z; by = fence-by closing (lastStore h kept) (closing-fence h (lineOf lost) (lastStore h lost) z) (leb-true _ _ (sym (closed-test z) ∙ e)) })
+
+    forced-closed : Forced h (lineOf lost) (lastStore h lost) (lastStore h kept) → closedBy (intervalOf h lost) (intervalOf h kept) ≡ true
+    forced-closed f = closed-test (forced-closes h f .there) ∙ le-leb _ _ (by-fence closing (lastStore h kept) (forced-closes h f .by))
+
+  abbrev line-test : ℕ → ℕ → Bool
+  line-test kept lost =
+      cond (eqb (lineOf kept) (lineOf lost))
+      (ltb (lastStore h kept) (lastStore h lost))
+      (not (closedBy (intervalOf h lost) (intervalOf h kept)))
+
+  abbrev stored-test : ℕ → Bool
+  stored-test b = not (eqb (lastStore h b) 0)
+
+  -- the test of a pair says what crash images say
+  pub breaks-risk : (lines kept lost : ℕ) → breaks (ofHistory lines h) kept lost ≡ true → PairRisk h kept lost
+  breaks-risk lines kept lost e =
+      let both-stored = and-left (stored-test kept && stored-test lost) (line-test kept lost) e in
+      let line = and-right (stored-test kept && stored-test lost) (line-test kept lost) e in
+      let keptStored = not-zero (lastStore h kept) (and-left (stored-test kept) (stored-test lost) both-stored) in
+      let lostStored = not-zero (lastStore h lost) (and-right (stored-test kept) (stored-test lost) both-stored) in
+      record {
+        keptStored = keptStored;
+        lostStored = lostStored;
+        together = λ s. ltb-true _ _ (rw (eq-eqb (lineOf kept) (lineOf lost) s) at line);
+        apart = λ n f. clash (rw (ne-eqb (lineOf kept) (lineOf lost) n, forced-closed kept lost keptStored lostStored f) at line) refl;
+      }
+
+  pub risk-breaks : (lines kept lost : ℕ) → PairRisk h kept lost → breaks (ofHistory lines h) kept lost ≡ true
+  risk-breaks lines kept lost x =
+      both (both (zero-not (lastStore h kept) (x .keptStored)) (zero-not (lastStore h lost) (x .lostStored)))
+      (line (decEq (lineOf kept) (lineOf lost)))
+    where
+      line : Dec (lineOf kept ≡ lineOf lost) → line-test kept lost ≡ true
+      line (yes s) = rw (eq-eqb (lineOf kept) (lineOf lost) s) (lt-ltb _ _ (x .together s))
+      line (no n) = rw (ne-eqb (lineOf kept) (lineOf lost) n) (not-of (fails _ (λ c. x .apart n (closed-forced kept lost (x .keptStored) (x .lostStored) c))))

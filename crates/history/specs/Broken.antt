@@ -1,0 +1,47 @@
+-- Bytes kept and lost in a crash image, what breaks an assertion, and the image meant by a failure.
+use mathlib.Core.Path.{_≡_}
+use mathlib.Core.Logic.{_≢_}
+use mathlib.Core.Bool.{cond}
+use Prim.Native.Nat.{ℕ, pred, min, _≤_}
+use lib.Dec.{eqb}
+use Rattle.event.specs.Window.{lineOf}
+use Rattle.history.specs.History.{History}
+use Rattle.history.specs.Interval.{lastStore}
+use Rattle.history.specs.Image.{Image, pieces, Survives, Allowed}
+
+-- the image keeps what store s set at byte b: the piece of that store on the byte's line survives
+abbrev pub Keeps : History → Image → ℕ → ℕ → Type 0
+Keeps h i s b = Survives h i (lineOf b) s
+
+-- the byte is kept: the image keeps its last store. A byte never stored to is neither kept nor lost
+pub record KeptIn (h : History) (i : Image) (b : ℕ) : Type 0 where
+  pub stored : lastStore h b ≢ 0
+  pub keeps : Keeps h i (lastStore h b) b
+
+-- the byte is lost: it has a last store, and is not kept
+pub record LostIn (h : History) (i : Image) (b : ℕ) : Type 0 where
+  pub stored : lastStore h b ≢ 0
+  pub loses : Keeps h i (lastStore h b) b → ⊥
+
+-- a persisted, or an outermost end, as event n is broken at byte b: the byte is lost in an allowed image of moment n
+pub record PersistedBroken (h : History) (n b : ℕ) : Type 0 where
+  pub image : Image
+  pub allowed : Allowed h image
+  pub moment : image .moment ≡ n
+  pub loses : LostIn h image b
+
+-- an ordered as event n is broken at a pair: one allowed image of a moment from 0 to n keeps the first and loses the second
+pub record OrderedBroken (h : History) (n kept lost : ℕ) : Type 0 where
+  pub image : Image
+  pub allowed : Allowed h image
+  pub moment : image .moment ≤ n
+  pub keeps : KeptIn h image kept
+  pub loses : LostIn h image lost
+
+-- the image meant: every line keeps all its pieces by the moment m, but the lost byte's line only those older than its last store
+abbrev pub meant : History → ℕ → ℕ → Image
+meant h m lost =
+    record {
+      moment = m;
+      survivors = λ l. cond (eqb l (lineOf lost)) (pieces h l (min m (pred (lastStore h lost)))) (pieces h l m);
+    }

@@ -1,0 +1,36 @@
+-- What a judge asks of a run: the questions that refusals and findings are worked out from. Here their answers are read off
+-- a history; the engine answers the same questions from its tables.
+use Prim.Native.Nat.{ℕ}
+use lib.ListN.{length}
+use Rattle.event.specs.declared.Interval.{Interval}
+use Rattle.history.specs.Count.{last}
+use Rattle.history.specs.History.{History, is, stores, storesLine, writesBackLine, logsByte}
+use Rattle.history.specs.Interval.{lastStore, intervalOf}
+use Rattle.history.specs.Transaction.{depth, outermost}
+
+pub record View : Type 0 where
+  pub lines : ℕ  -- the window's lines
+  pub events : ℕ  -- events taken
+  pub depth : ℕ  -- transactions open
+  pub begin : ℕ  -- the latest outermost begin
+  pub latestStore : ℕ  -- the latest store, whatever it covers
+  pub lastStore : ℕ → ℕ  -- a byte's last store
+  pub lastLog : ℕ → ℕ  -- a byte's last log
+  pub interval : ℕ → Interval
+  pub lineStore : ℕ → ℕ  -- the last store to a line
+  pub lineBack : ℕ → ℕ  -- the last write-back of a line
+
+abbrev pub ofHistory : ℕ → History → View
+ofHistory lines h =
+    record {
+      lines = lines;
+      events = length h;
+      depth = depth h;
+      begin = outermost h;
+      latestStore = last (is stores h) (length h);
+      lastStore = lastStore h;
+      lastLog = λ b. last (is (logsByte b) h) (length h);
+      interval = intervalOf h;
+      lineStore = λ l. last (is (storesLine l) h) (length h);
+      lineBack = λ l. last (is (writesBackLine l) h) (length h);
+    }
