@@ -1,4 +1,6 @@
+-- Laws that the proofs cite, and theorems on the definitions, which other crates may cite too.
 pub mod Bools
 pub mod Laws
 pub mod Table
 pub mod Pins
+pub mod RoundTrip

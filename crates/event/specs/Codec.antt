@@ -4,7 +4,8 @@ use mathlib.Core.Bool.{Bool, cond, not, _&&_, _||_}
 use mathlib.Core.List.{List, [], _∷_, _++_}
 use lib.Dec.{leb, eqb}
 use lib.ListN.{getD}
-use Rattle.event.specs.Numbers.{fieldsOf}
+use Rattle.event.specs.Numbers.{kindOf, fieldsOf}
+use Rattle.event.specs.Window.{rangesOf}
 use Rattle.event.specs.declared.Range.{Range}
 use Rattle.event.specs.declared.Event.{Event}
 use Rattle.event.specs.declared.Event.the-variants.{Store, WriteBack, Fence, Begin, Log, End, Persisted, Ordered}
@@ -74,3 +75,14 @@ findingBytes f site =
     fieldsOf f .kind ∷ 0 ∷
     u16Bytes (fieldsOf f .lost) ++ u16Bytes (fieldsOf f .kept) ++ u16Bytes (fieldsOf f .moment) ++
     u16Bytes (fieldsOf f .store) ++ u16Bytes site
+
+-- a record as 12 bytes: fields that its kind lacks are 0
+abbrev pub rangeBytes : Range → List ℕ
+rangeBytes r = u16Bytes (r .address) ++ u16Bytes (r .length)
+
+abbrev pub zeroRange : Range
+zeroRange = record { address = 0; length = 0 }
+
+abbrev pub recordBytes : Event → ℕ → List ℕ
+recordBytes e site =
+    kindOf e ∷ 0 ∷ rangeBytes (getD (rangesOf e) 0 zeroRange) ++ rangeBytes (getD (rangesOf e) 1 zeroRange) ++ u16Bytes site

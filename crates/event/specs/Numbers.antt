@@ -18,20 +18,21 @@ kindOf End = 6
 kindOf (Persisted a) = 7
 kindOf (Ordered a b) = 8
 
--- kind, lost, kept, moment, store; fields not mentioned are 0
-abbrev fields : ℕ → ℕ → ℕ → ℕ → ℕ → Fields
-fields kind lost kept moment store = record { kind = kind; lost = lost; kept = kept; moment = moment; store = store }
+-- kind, lost, kept, moment, store
+abbrev pub fieldsWith : ℕ → ℕ → ℕ → ℕ → ℕ → Fields
+fieldsWith kind lost kept moment store = record { kind = kind; lost = lost; kept = kept; moment = moment; store = store }
 
+-- fields not mentioned are 0
 abbrev pub fieldsOf : Finding → Fields
-fieldsOf None = fields 0 0 0 0 0
-fieldsOf Holds = fields 1 0 0 0 0
-fieldsOf (Lost lost moment store) = fields 2 lost 0 moment store
-fieldsOf (OutOfOrder lost kept moment store) = fields 3 lost kept moment store
-fieldsOf (Unlogged lost) = fields 4 lost 0 0 0
-fieldsOf (Clean lost) = fields 5 lost 0 0 0
-fieldsOf (WrittenTwice lost) = fields 6 lost 0 0 0
-fieldsOf (LoggedTwice lost) = fields 7 lost 0 0 0
-fieldsOf Empty = fields 8 0 0 0 0
+fieldsOf None = fieldsWith 0 0 0 0 0
+fieldsOf Holds = fieldsWith 1 0 0 0 0
+fieldsOf (Lost lost moment store) = fieldsWith 2 lost 0 moment store
+fieldsOf (OutOfOrder lost kept moment store) = fieldsWith 3 lost kept moment store
+fieldsOf (Unlogged lost) = fieldsWith 4 lost 0 0 0
+fieldsOf (Clean lost) = fieldsWith 5 lost 0 0 0
+fieldsOf (WrittenTwice lost) = fieldsWith 6 lost 0 0 0
+fieldsOf (LoggedTwice lost) = fieldsWith 7 lost 0 0 0
+fieldsOf Empty = fieldsWith 8 0 0 0 0
 
 abbrev pub numberOf : Refusal → ℕ
 numberOf TraceTooShort = 1

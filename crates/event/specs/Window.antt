@@ -1,6 +1,6 @@
 -- The window: its size, its lines, what a range covers and which lines it touches, and the limits 4, 8 and 9.
 use Prim.Native.Nat.{ℕ, _+_, _*_, _/_, _-_}
-use mathlib.Core.Bool.{Bool, true, false, cond, not, _&&_, _||_}
+use mathlib.Core.Bool.{Bool, false, cond, not, _&&_, _||_}
 use mathlib.Core.List.{List, [], _∷_}
 use lib.Dec.{leb, ltb, eqb}
 use Rattle.event.specs.declared.Range.{Range}
@@ -69,11 +69,13 @@ abbrev pub anyRange : (Range → Bool) → List Range → Bool
 anyRange p [] = false
 anyRange p (r ∷ rs) = p r || anyRange p rs
 
+-- the limits 8 and 9, in this order
+abbrev pub limitsCheck : Bool → Bool → Check
+limitsCheck empty past = cond empty (Refused EmptyRange) (cond past (Refused PastWindow) Passed)
+
 -- 8: a used length is 0; 9: a used range runs past the window
 abbrev pub rangeCheck : ℕ → Event → Check
-rangeCheck lines e =
-    cond (anyRange isEmpty (rangesOf e)) (Refused EmptyRange)
-    (cond (anyRange (isPast lines) (rangesOf e)) (Refused PastWindow) Passed)
+rangeCheck lines e = limitsCheck (anyRange isEmpty (rangesOf e)) (anyRange (isPast lines) (rangesOf e))
 
 -- 4: lines outside 1 to 64
 abbrev pub linesCheck : ℕ → Check

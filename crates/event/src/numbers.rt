@@ -4,7 +4,7 @@ use crate::Fields;
 use crate::Finding;
 use crate::Refusal;
 ghost use mathlib.Core.Path.{_≡_};
-ghost use Rattle.event.specs.Numbers.{kindOf, fieldsOf, numberOf};
+ghost use Rattle.event.specs.Numbers.{kindOf, fieldsWith, fieldsOf, numberOf};
 
 // The number of an event's kind, 1 to 8.
 pub fn kind(e: Event) -> u8
@@ -24,7 +24,7 @@ pub fn kind(e: Event) -> u8
 
 // The fields of a finding that has lost alone, or none of them.
 fn only_lost(kind: u8, lost: u16) -> Fields
-    ensures { λ r. ⌜ r ≡ record { kind = kind; lost = lost; kept = 0; moment = 0; store = 0 } ⌝ }
+    ensures { λ r. ⌜ r ≡ fieldsWith kind lost 0 0 0 ⌝ }
 {
     Fields {
         kind,

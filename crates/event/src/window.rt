@@ -4,8 +4,7 @@ use crate::Event;
 use crate::Range;
 use crate::Refusal;
 ghost use mathlib.Core.Path.{_≡_};
-ghost use mathlib.Core.Bool.{cond};
-ghost use Rattle.event.specs.Window.{windowBytes, lineOf, lineStart, rangeEnd, covers, isEmpty, touches, lineCount, isPast, rangeCheck, linesCheck};
+ghost use Rattle.event.specs.Window.{windowBytes, lineOf, lineStart, rangeEnd, covers, isEmpty, touches, lineCount, isPast, limitsCheck, rangeCheck, linesCheck};
 
 // The start address of each line of the largest window.
 const LINE_STARTS: [u16; 64] = [
@@ -154,7 +153,7 @@ pub fn is_past(lines: u16, r: Range) -> bool
 
 // The limits 8 and 9, in this order.
 fn limits(empty: bool, past: bool) -> Check
-    ensures { λ c. ⌜ c ≡ cond empty (Check.Refused Refusal.EmptyRange) (cond past (Check.Refused Refusal.PastWindow) Check.Passed) ⌝ }
+    ensures { λ c. ⌜ c ≡ limitsCheck empty past ⌝ }
 {
     if empty {
         return Check::Refused(Refusal::EmptyRange);

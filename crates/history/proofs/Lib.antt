@@ -9,5 +9,6 @@ pub mod Quiet
 pub mod Claim
 pub mod Unique
 pub mod Given
+pub mod Exactly
 pub mod Pins
 pub mod Small

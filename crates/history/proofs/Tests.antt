@@ -15,7 +15,7 @@ use Rattle.history.specs.Count.{count}
 use Rattle.history.specs.History.{History, is, fences}
 use Rattle.history.specs.Interval.{epochAt, lastStore, fenceAfter, intervalOf}
 use Rattle.history.specs.View.{View, ofHistory}
-use Rattle.history.specs.Found.{isOpen, closedBy, atRisk, breaks}
+use Rattle.history.specs.Found.{isOpen, openedAt, closedBy, atRisk, breaks}
 use Rattle.history.specs.Image.{Forced}
 use Rattle.event.proofs.Bools.{clash, fails, not-of, and-left, and-right, both}
 use Rattle.history.proofs.Count.{count-mono, count-less}
@@ -60,37 +60,37 @@ module _ (h : History) where
   unfolding epochAt
   by-fence f m k = count-mono (is fences h) f m k
 
-  -- the second interval of the test opens at the epoch of its byte's last store
-  closed-by-kept : (kept e f : ℕ) → lastStore h kept ≢ 0 → closedBy (Closed e f) (intervalOf h kept) ≡ leb f (epochAt h (lastStore h kept))
-  closed-by-kept kept e f s = go (decEq (fenceAfter h (lineOf kept) (lastStore h kept)) 0)
+  -- an interval opened at the epoch of its byte's last store
+  opened-at : (b : ℕ) → lastStore h b ≢ 0 → openedAt (intervalOf h b) ≡ epochAt h (lastStore h b)
+  opened-at b s = go (decEq (fenceAfter h (lineOf b) (lastStore h b)) 0)
     where
-      go : Dec (fenceAfter h (lineOf kept) (lastStore h kept) ≡ 0) → closedBy (Closed e f) (intervalOf h kept) ≡ leb f (epochAt h (lastStore h kept))
-      go (yes z) = rw (interval-open h kept s z)
-      go (no z) = rw (interval-closed h kept s z)
+      go : Dec (fenceAfter h (lineOf b) (lastStore h b) ≡ 0) → openedAt (intervalOf h b) ≡ epochAt h (lastStore h b)
+      go (yes z) = rw (interval-open h b s z)
+      go (no z) = rw (interval-closed h b s z)
 
   module _ (kept lost : ℕ) (keptStored : lastStore h kept ≢ 0) (lostStored : lastStore h lost ≢ 0) where
     abbrev closing : ℕ
     closing = fenceAfter h (lineOf lost) (lastStore h lost)
 
-    closed-test : closing ≢ 0 → closedBy (intervalOf h lost) (intervalOf h kept) ≡ leb (epochAt h closing) (epochAt h (lastStore h kept))
-    closed-test z = rw (interval-closed h lost lostStored z) (closed-by-kept kept (epochAt h (lastStore h lost)) (epochAt h closing) keptStored)
+    closed-test : closing ≢ 0 → closedBy (intervalOf h lost) (openedAt (intervalOf h kept)) ≡ leb (epochAt h closing) (epochAt h (lastStore h kept))
+    closed-test z = rw (interval-closed h lost lostStored z, opened-at kept keptStored)
 
     -- the lost byte's interval is closed by the kept byte's epoch exactly if its last store is forced by the kept one
-    closed-forced : closedBy (intervalOf h lost) (intervalOf h kept) ≡ true → Forced h (lineOf lost) (lastStore h lost) (lastStore h kept)
+    closed-forced : closedBy (intervalOf h lost) (openedAt (intervalOf h kept)) ≡ true → Forced h (lineOf lost) (lastStore h lost) (lastStore h kept)
     closed-forced e = go (decEq closing 0)
       where
         go : Dec (closing ≡ 0) → Forced h (lineOf lost) (lastStore h lost) (lastStore h kept)
         go (yes z) = absurd (clash (rw (interval-open h lost lostStored z) at e) refl)
         go (no z) = closes-forced h (record { there = z; by = fence-by closing (lastStore h kept) (closing-fence h (lineOf lost) (lastStore h lost) z) (leb-true _ _ (sym (closed-test z) ∙ e)) })
 
-    forced-closed : Forced h (lineOf lost) (lastStore h lost) (lastStore h kept) → closedBy (intervalOf h lost) (intervalOf h kept) ≡ true
+    forced-closed : Forced h (lineOf lost) (lastStore h lost) (lastStore h kept) → closedBy (intervalOf h lost) (openedAt (intervalOf h kept)) ≡ true
     forced-closed f = closed-test (forced-closes h f .there) ∙ le-leb _ _ (by-fence closing (lastStore h kept) (forced-closes h f .by))
 
   abbrev line-test : ℕ → ℕ → Bool
   line-test kept lost =
       cond (eqb (lineOf kept) (lineOf lost))
       (ltb (lastStore h kept) (lastStore h lost))
-      (not (closedBy (intervalOf h lost) (intervalOf h kept)))
+      (not (closedBy (intervalOf h lost) (openedAt (intervalOf h kept))))
 
   abbrev stored-test : ℕ → Bool
   stored-test b = not (eqb (lastStore h b) 0)

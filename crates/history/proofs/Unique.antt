@@ -33,13 +33,13 @@ one-warning (Warned.quiet a) (Warned.warns {x = x} b) = absurd (a x (b .has))
 one-warning (Warned.warns {x = x} a) (Warned.quiet b) = absurd (b x (a .has))
 one-warning {P = P} {warning = warning} (Warned.warns {x = x} a) (Warned.warns {x = y} b) = ap warning (lowest-one P x y a b)
 
-one-durable : {now : History} {n : ℕ} {B : ℕ → Type 0} {f g : Finding} → Persists now n B f → Persists now n B g → f ≡ g
-one-durable (Persists.holds a) (Persists.holds b) = refl
-one-durable (Persists.holds a) (Persists.lost {b = x} b c) = absurd (a x (b .has))
-one-durable (Persists.lost {b = x} b c) (Persists.holds a) = absurd (a x (b .has))
-one-durable {now = now} {n = n} (Persists.lost {b = x} a c) (Persists.lost {b = y} b d) = ap (λ (z : ℕ). Lost z n (lastStore now z)) (lowest-one _ x y a b)
+pub one-persisted : {now : History} {n : ℕ} {B : ℕ → Type 0} {f g : Finding} → Persists now n B f → Persists now n B g → f ≡ g
+one-persisted (Persists.holds a) (Persists.holds b) = refl
+one-persisted (Persists.holds a) (Persists.lost {b = x} b c) = absurd (a x (b .has))
+one-persisted (Persists.lost {b = x} b c) (Persists.holds a) = absurd (a x (b .has))
+one-persisted {now = now} {n = n} (Persists.lost {b = x} a c) (Persists.lost {b = y} b d) = ap (λ (z : ℕ). Lost z n (lastStore now z)) (lowest-one _ x y a b)
 
-one-order : {now : History} {n : ℕ} {a b : Range} {f g : Finding} → Orders now n a b f → Orders now n a b g → f ≡ g
+pub one-order : {now : History} {n : ℕ} {a b : Range} {f g : Finding} → Orders now n a b f → Orders now n a b g → f ≡ g
 one-order (Orders.holds x) (Orders.holds y) = refl
 one-order (Orders.holds x) (Orders.outOfOrder {kept = k} {lost = l} y z u v) = absurd (x k l (z .has))
 one-order (Orders.outOfOrder {kept = k} {lost = l} y z u v) (Orders.holds x) = absurd (x k l (z .has))
@@ -68,7 +68,7 @@ one-end (Ended.empty a b) (Ended.empty c d) = refl
 one-end (Ended.empty a b) (Ended.outermost c d e) = absurd (b d)
 one-end (Ended.outermost a b c) (Ended.inner d) = absurd (d a)
 one-end (Ended.outermost a b c) (Ended.empty d e) = absurd (e b)
-one-end (Ended.outermost a b c) (Ended.outermost d e f) = one-durable c f
+one-end (Ended.outermost a b c) (Ended.outermost d e f) = one-persisted c f
 
 one-of : (h now : History) (n : ℕ) (e : Event) {f g : Finding} → ClaimOf h now n e f → ClaimOf h now n e g → f ≡ g
 one-of h now n (Store a) x y = one-warning x y
@@ -77,7 +77,7 @@ one-of h now n Fence x y = x ∙ sym y
 one-of h now n Begin x y = x ∙ sym y
 one-of h now n (Log a) x y = one-warning x y
 one-of h now n End x y = one-end x y
-one-of h now n (Persisted a) x y = one-durable x y
+one-of h now n (Persisted a) x y = one-persisted x y
 one-of h now n (Ordered a b) x y = one-order x y
 
 -- a claim admits one finding only

@@ -25,5 +25,5 @@ first p s (suc m) = orElse (first p s m) (cond (ltb s (suc m) && p (suc m)) (suc
 
 -- the value at a number, or the other one where the number is 0
 abbrev pub ifSome : {A : Type 0} → ℕ → A → (ℕ → A) → A
-ifSome zero none f = none
-ifSome (suc n) none f = f (suc n)
+ifSome zero other f = other
+ifSome (suc n) other f = f (suc n)

@@ -67,13 +67,17 @@ atRisk v b = isOpen (v .interval b)
 abbrev pub durable : View → Option ℕ → Finding
 durable v found = foundOr found Holds (λ b. Lost b (suc (v .events)) (v .lastStore b))
 
--- the first interval was closed by the epoch at which the second opened
-abbrev pub closedBy : Interval → Interval → Bool
+-- the epoch at which an interval opened, 0 where there is none
+abbrev pub openedAt : Interval → ℕ
+openedAt NoInterval = 0
+openedAt (Open e) = e
+openedAt (Closed e f) = e
+
+-- the interval was closed by an epoch
+abbrev pub closedBy : Interval → ℕ → Bool
 closedBy NoInterval k = false
 closedBy (Open e) k = false
-closedBy (Closed e f) NoInterval = false
-closedBy (Closed e f) (Open k) = leb f k
-closedBy (Closed e f) (Closed k l) = leb f k
+closedBy (Closed e f) k = leb f k
 
 -- a crash may keep the first byte and lose the second. Both were stored to; on one line the kept store is the older, and on
 -- two lines the lost byte's interval was not closed by the epoch of the kept store
@@ -82,7 +86,7 @@ breaks v kept lost =
     not (eqb (v .lastStore kept) 0) && not (eqb (v .lastStore lost) 0) &&
     cond (eqb (lineOf kept) (lineOf lost))
     (ltb (v .lastStore kept) (v .lastStore lost))
-    (not (closedBy (v .interval lost) (v .interval kept)))
+    (not (closedBy (v .interval lost) (openedAt (v .interval kept))))
 
 -- the lowest of the n kept bytes from x on that has a lost partner in the range, with its lowest partner
 pub record Pair : Type 0 where
