@@ -1,14 +1,15 @@
 -- Tests as facts: b ≡ true and b ≡ false.
 use mathlib.Core.Path.{_≡_, refl, sym, _∙_}
-use mathlib.Core.Bool.{Bool, true, false, cond, not, _&&_, _||_, true≢false}
+use mathlib.Core.Bool.{Bool, true, false, not, _&&_, _||_, true≢false}
 use mathlib.Core.Logic.{_⊎_, inl, inr}
+use lib.Dec.{T}
 
--- a test passes or fails
-pub either : (b : Bool) → (b ≡ true) ⊎ (b ≡ false)
-either true = inl refl
-either false = inr refl
+-- a test that computes to true passes
+pub computed : (b : Bool) → T b → b ≡ true
+computed true t = refl
+computed false t = absurd t
 
--- and not both
+-- no test passes and fails
 pub clash : {b : Bool} → b ≡ true → b ≡ false → ⊥
 clash e f = true≢false (sym e ∙ f)
 

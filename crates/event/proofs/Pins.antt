@@ -100,7 +100,7 @@ kind-of-event zero a b e = absurd (clash e refl)
 kind-of-event (suc n) a b e =
     let kinds : List ℕ = 1 ∷ 2 ∷ 3 ∷ 4 ∷ 5 ∷ 6 ∷ 7 ∷ 8 ∷ [] in
     let below : n < 8 = omega (arith, leb-true (suc n) 8 (and-right (leb 1 (suc n)) (leb (suc n) 8) e)) in
-    so (at (λ k. kindOf (eventOf (suc k) a b)) kinds refl n below) (at suc kinds refl n below)
+    so (at (λ k. kindOf (eventOf (suc k) a b)) kinds tt n below) (at suc kinds tt n below)
 
 -- A u16 written as two bytes is read back.
 pub u16-round-trip : (n : ℕ) → u16At (u16Bytes n) 0 ≡ n

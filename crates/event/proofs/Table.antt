@@ -5,10 +5,10 @@ use mathlib.Core.Bool.{Bool, true, _&&_}
 use mathlib.Core.List.{List, [], _∷_}
 use Prim.Native.Nat.{ℕ, zero, suc, _+_, _<_}
 use native.Mathlib.Nat.{add-zero, zero-add, add-suc, suc-add, le-of-suc-le-suc, not-suc-le-zero}
-use lib.Dec.{eqb}
+use lib.Dec.{T, eqb}
 use lib.ListN.{length, getD}
 use borrow.Author.Tests.{eqb-true}
-use Rattle.event.proofs.Bools.{and-left, and-right}
+use Rattle.event.proofs.Bools.{computed, and-left, and-right}
 
 -- each entry is what the rule gives for its place, counted from i
 abbrev pub every : (ℕ → ℕ) → ℕ → List ℕ → Bool
@@ -23,5 +23,5 @@ from rule (x ∷ xs) i t (suc k) h =
     ∙ ap rule (suc-add i k ∙ sym (add-suc i k))
 
 -- where the test passes, the entry at k is what the rule gives for k
-pub at : (rule : ℕ → ℕ) (xs : List ℕ) → every rule 0 xs ≡ true → (k : ℕ) → k < length xs → getD xs k 0 ≡ rule k
-at rule xs t k h = from rule xs 0 t k h ∙ ap rule (zero-add k)
+pub at : (rule : ℕ → ℕ) (xs : List ℕ) → T (every rule 0 xs) → (k : ℕ) → k < length xs → getD xs k 0 ≡ rule k
+at rule xs t k h = from rule xs 0 (computed (every rule 0 xs) t) k h ∙ ap rule (zero-add k)

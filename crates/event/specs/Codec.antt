@@ -1,11 +1,9 @@
 -- The bytes of a record and of a finding, 12 each. Numbers are least significant byte first.
-use Prim.Native.Nat.{ℕ, _+_, _*_, _/_, _%_}
 use mathlib.Core.Bool.{Bool, cond, not, _&&_, _||_}
 use mathlib.Core.List.{List, [], _∷_, _++_}
+use Prim.Native.Nat.{ℕ, _+_, _*_, _/_, _%_}
 use lib.Dec.{leb, eqb}
 use lib.ListN.{getD}
-use Rattle.event.specs.Numbers.{kindOf, fieldsOf}
-use Rattle.event.specs.Window.{rangesOf}
 use Rattle.event.specs.declared.Range.{Range}
 use Rattle.event.specs.declared.Event.{Event}
 use Rattle.event.specs.declared.Event.the-variants.{Store, WriteBack, Fence, Begin, Log, End, Persisted, Ordered}
@@ -13,6 +11,8 @@ use Rattle.event.specs.declared.Finding.{Finding}
 use Rattle.event.specs.declared.Refusal.the-variants.{UnknownKind, FieldSet}
 use Rattle.event.specs.declared.Parsed.{Parsed}
 use Rattle.event.specs.declared.Parsed.the-variants.{Record, Refused}
+use Rattle.event.specs.Numbers.{kindOf, fieldsOf}
+use Rattle.event.specs.Window.{rangesOf}
 
 -- the u16 at a place of the bytes; bytes past their end count as 0
 abbrev pub u16At : List ℕ → ℕ → ℕ

@@ -1,15 +1,15 @@
 -- Laws of count, last and first, over any test on numbers.
-use mathlib.Core.Path.{_≡_, refl, sym, ap, subst, _∙_}
+use mathlib.Core.Path.{_≡_, refl, sym, ap, _∙_}
 use mathlib.Core.Bool.{Bool, true, false, cond, _&&_}
 use mathlib.Core.Logic.{_≢_, _⊎_, inl, inr, ⊎-elim}
-use Prim.Native.Nat.{ℕ, zero, suc, pred, _≤_, _<_}
+use Prim.Native.Nat.{ℕ, zero, suc, _≤_, _<_}
 use native.Mathlib.Nat.{le-refl, le-trans}
 use native.Mathlib.Decide.{decLe}
 use native.Mathlib.Omega.{arith}
 use lib.Dec.{ltb}
 use borrow.Author.Tests.{ltb-true, lt-ltb}
+use Rattle.event.proofs.Bools.{clash, and-left, and-right, both}
 use Rattle.history.specs.Count.{count, last, first, orElse}
-use Rattle.event.proofs.Bools.{either, clash, and-left, and-right, both}
 
 -- a number up to suc m is suc m or up to m
 pub at-most-suc : {i m : ℕ} → i ≤ suc m → (i ≡ suc m) ⊎ (i ≤ m)
@@ -25,6 +25,12 @@ nonzero e = omega arith
 or-else : (x y : ℕ) → x ≢ 0 → orElse x y ≡ x
 or-else zero y h = absurd (h refl)
 or-else (suc x) y h = refl
+
+-- tests that agree up to m count the same
+pub count-same : (p q : ℕ → Bool) (m : ℕ) → ((i : ℕ) → i ≤ m → p i ≡ q i) → count p m ≡ count q m
+unfolding count
+count-same p q zero f = refl
+count-same p q (suc m) f = rw (f (suc m) (le-refl (suc m)), count-same p q m (λ i k. f i (omega arith)))
 
 module _ (p : ℕ → Bool) where
   count-suc-le : (m : ℕ) → count p m ≤ count p (suc m)

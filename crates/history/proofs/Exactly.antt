@@ -1,5 +1,5 @@
 -- "Holds" is said of an assertion exactly when no allowed crash image of a moment that it covers breaks it.
-use mathlib.Core.Path.{_≡_, subst, _∙_}
+use mathlib.Core.Path.{_≡_, subst}
 use mathlib.Core.Bool.{true}
 use mathlib.Core.Logic.{_↔_}
 use mathlib.Core.List.{_∷_}

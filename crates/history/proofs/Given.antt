@@ -1,15 +1,10 @@
 -- The answers to a whole list of given events meet the one claim over it, and no other answers do.
-use mathlib.Core.Path.{_≡_, refl, sym, ap, ap₂, subst, _∙_}
-use mathlib.Core.Bool.{Bool, true, false, cond, _||_}
-use mathlib.Core.Logic.{⊎-elim}
-use mathlib.Core.List.{List, [], _∷_, _++_}
-use Prim.Native.Nat.{ℕ, zero, suc, _+_, _≤_, _<_}
-use native.Mathlib.Omega.{arith}
+use mathlib.Core.Path.{_≡_, refl, sym, ap, ap₂, _∙_}
+use mathlib.Core.Bool.{Bool, true, false, cond}
+use mathlib.Core.List.{List, [], _∷_}
+use Prim.Native.Nat.{ℕ, suc, _<_}
 use native.Mathlib.Decide.{ℕ-discrete as decEq}
-use lib.Dec.{ltb}
 use lib.ListN.{length}
-use borrow.Author.Tests.{ltb-false}
-use Rattle.event.specs.declared.Range.{Range}
 use Rattle.event.specs.declared.Event.{Event}
 use Rattle.event.specs.declared.Record.{Record}
 use Rattle.event.specs.declared.Finding.{Finding}
@@ -18,13 +13,13 @@ use Rattle.event.specs.declared.Check.{Check}
 use Rattle.event.specs.declared.Check.the-variants.{Passed, Refused as Breaks}
 use Rattle.event.specs.declared.Answer.{Answer}
 use Rattle.event.specs.declared.Answer.the-variants.{Refused, Found}
-use Rattle.event.specs.Window.{windowBytes, covers, isPast, rangesOf, anyRange, rangeEnd}
+use Rattle.event.specs.Window.{windowBytes, isPast, rangesOf, anyRange}
+use Rattle.event.proofs.Bools.{clash, and-right}
 use Rattle.history.specs.History.{History, is, stores, coversByte, storesByte}
 use Rattle.history.specs.View.{ofHistory}
 use Rattle.history.specs.Refused.{Limit, limitsBy, First, NoneBroken, firstBroken, refusalBy}
 use Rattle.history.specs.Found.{findingBy}
-use Rattle.history.specs.Given.{answerFor, answerOf, after, accepted, answers, windowOf, RefusedBy, Accepted, ClaimRun}
-use Rattle.event.proofs.Bools.{clash, fails, and-right, or-cases, or-left, or-right}
+use Rattle.history.specs.Given.{answerFor, answerOf, after, answers, windowOf, RefusedBy, Accepted, ClaimRun}
 use Rattle.history.proofs.History.{is-newest, is-older}
 use Rattle.history.proofs.Window.{covers-inside}
 use Rattle.history.proofs.Claim.{Inside, finding-claim}

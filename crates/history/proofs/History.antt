@@ -1,21 +1,20 @@
 -- Laws of event numbers, over any test on events.
 use mathlib.Core.Path.{_≡_, refl, sym, _∙_, fun-ext}
 use mathlib.Core.Bool.{Bool, true, false, cond}
-use mathlib.Core.List.{List, [], _∷_, _++_}
-use Prim.Native.Nat.{ℕ, zero, suc, _+_, _≤_, _<_}
-use native.Mathlib.Nat.{add-suc}
+use mathlib.Core.List.{[], _∷_}
+use mathlib.Core.Logic.{_≢_}
+use Prim.Native.Nat.{ℕ, suc, _≤_, _<_}
 use native.Mathlib.Omega.{arith}
+use native.Mathlib.Decide.{ℕ-discrete as decEq}
 use lib.Dec.{eqb}
-use lib.ListN.{length, length-append}
-use borrow.Author.Tests.{eqb-true, eqb-false, eq-eqb, ne-eqb}
+use lib.ListN.{length}
+use borrow.Author.Tests.{eqb-true, eq-eqb, ne-eqb}
 use Rattle.event.specs.declared.Event.{Event}
 use Rattle.event.specs.declared.Record.{Record}
-use Rattle.history.specs.History.{History, is}
-use native.Mathlib.Decide.{ℕ-discrete as decEq}
-use Rattle.history.specs.Count.{last}
 use Rattle.event.proofs.Bools.{clash, fails}
-use Rattle.history.proofs.Count.{last-passes, last-latest}
-use mathlib.Core.Logic.{_≢_}
+use Rattle.history.specs.History.{History, is}
+use Rattle.history.specs.Count.{count, last}
+use Rattle.history.proofs.Count.{count-same, last-passes, last-latest}
 
 module _ (p : Event → Bool) where
   -- the newest event has the number of all of them
@@ -57,6 +56,14 @@ module _ (p : Event → Bool) where
       at : (i : ℕ) → Dec (i ≡ suc (length h)) → is p (r ∷ h) i ≡ is p h i
       at i (yes e) = rw e (is-newest r h ∙ f ∙ sym (is-beyond h (suc (length h)) (omega arith)))
       at i (no k) = is-older r h i k
+
+  -- how many events pass: earlier counts stay, and the newest event adds one where it passes
+  pub count-kept : (r : Record) (h : History) (m : ℕ) → m ≤ length h → count (is p (r ∷ h)) m ≡ count (is p h) m
+  count-kept r h m k = count-same (is p (r ∷ h)) (is p h) m (λ i j. is-kept r h i (omega arith))
+
+  pub count-newest : (r : Record) (h : History) → count (is p (r ∷ h)) (suc (length h)) ≡ cond (p (r .event)) (suc (count (is p h) (length h))) (count (is p h) (length h))
+  unfolding count
+  count-newest r h = rw (is-newest r h, count-kept r h (length h) (omega arith))
 
   -- the last event that passes, in the whole list
   pub is-last : (h : History) → last (is p h) (length h) ≢ 0 → is p h (last (is p h) (length h)) ≡ true

@@ -1,20 +1,18 @@
 -- A byte's last store and its interval, in terms of events.
-use mathlib.Core.Path.{_≡_, refl, sym, _∙_}
-use mathlib.Core.Bool.{Bool, true, false}
+use mathlib.Core.Path.{_≡_, refl, _∙_}
+use mathlib.Core.Bool.{true}
 use mathlib.Core.Logic.{_≢_}
-use Prim.Native.Nat.{ℕ, zero, suc, _≤_, _<_}
+use Prim.Native.Nat.{ℕ, zero, suc, _≤_}
 use native.Mathlib.Omega.{arith}
-use native.Mathlib.Nat.{lt-of-lt-of-le, le-trans}
-use native.Mathlib.Decide.{ℕ-discrete as decEq}
 use lib.ListN.{length}
 use Rattle.event.specs.declared.Interval.{Interval}
 use Rattle.event.specs.declared.Interval.the-variants.{None, Open, Closed}
 use Rattle.event.specs.Window.{lineOf}
-use Rattle.history.specs.Count.{count, last, first, ifSome}
+use Rattle.history.specs.Count.{first, ifSome}
 use Rattle.history.specs.History.{History, is, fences, storesByte, storesLine, writesBackLine}
 use Rattle.history.specs.Interval.{epochAt, lastStore, backAfter, fenceAfter, intervalOf}
 use Rattle.history.specs.Image.{Forced}
-use Rattle.history.proofs.Count.{last-le, first-is, first-earliest, count-mono, count-less}
+use Rattle.history.proofs.Count.{last-le, first-is, first-earliest}
 use Rattle.history.proofs.History.{is-implied, is-number, is-last, is-latest}
 use Rattle.history.proofs.Window.{stores-line}
 

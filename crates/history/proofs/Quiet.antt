@@ -1,14 +1,13 @@
 -- An event that is no store, no write-back and no fence changes no last store and no interval.
-use mathlib.Core.Path.{_≡_, refl, sym, ap, _∙_, fun-ext}
+use mathlib.Core.Path.{_≡_, refl, ap, _∙_, fun-ext}
 use mathlib.Core.Bool.{Bool, true, false, cond, _&&_}
 use mathlib.Core.List.{_∷_}
-use Prim.Native.Nat.{ℕ, zero, suc, _<_}
+use Prim.Native.Nat.{ℕ, zero, suc}
 use native.Mathlib.Omega.{arith}
 use lib.Dec.{ltb}
 use lib.ListN.{length}
 use Rattle.event.specs.declared.Event.{Event}
 use Rattle.event.specs.declared.Record.{Record}
-use Rattle.event.specs.Window.{lineOf}
 use Rattle.history.specs.Count.{count, last, first, orElse, ifSome}
 use Rattle.history.specs.History.{History, is, stores, writesBack, fences, storesByte, writesBackLine}
 use Rattle.history.specs.Interval.{epochAt, lastStore, backAfter, fenceAfter, intervalOf}

@@ -1,16 +1,14 @@
 -- What a search from the front finds: the lowest number with a property, and the lowest pair.
-use mathlib.Core.Path.{_≡_, refl, sym, _∙_}
+use mathlib.Core.Path.{_≡_, refl}
 use mathlib.Core.Bool.{Bool, true, false, cond}
-use mathlib.Core.Logic.{_⊎_, inl, inr, ⊎-elim}
 use mathlib.Core.Option.{Option, none, some}
 use Prim.Native.Nat.{ℕ, zero, suc, _+_, _≤_, _<_}
-use native.Mathlib.Nat.{add-suc, suc-add}
 use native.Mathlib.Omega.{arith}
-use native.Mathlib.Decide.{decLe, ℕ-discrete as decEq}
+use native.Mathlib.Decide.{ℕ-discrete as decEq}
 use Rattle.event.specs.declared.Range.{Range}
+use Rattle.event.proofs.Bools.{clash}
 use Rattle.history.specs.Found.{lowest, lowestIn, lowestPair, orPair, Pair}
 use Rattle.history.specs.Assertion.{Lowest}
-use Rattle.event.proofs.Bools.{clash}
 
 -- the lowest number with the property, or that none has it
 pub data Least (P : ℕ → Type 0) : Option ℕ → Type 0 where

@@ -1,26 +1,23 @@
 -- The tests that a finding is computed by say what crash images say.
-use mathlib.Core.Path.{_≡_, refl, sym, ap, subst, _∙_}
-use mathlib.Core.Bool.{Bool, true, false, cond, not, _&&_}
-use mathlib.Core.Logic.{_≢_, _⊎_, inl, inr, ⊎-elim}
-use Prim.Native.Nat.{ℕ, zero, suc, _≤_, _<_}
+use mathlib.Core.Path.{_≡_, refl, sym, _∙_}
+use mathlib.Core.Bool.{Bool, true, cond, not, _&&_}
+use mathlib.Core.Logic.{_≢_}
+use Prim.Native.Nat.{ℕ, _≤_}
 use native.Mathlib.Omega.{arith}
 use native.Mathlib.Decide.{decLe, ℕ-discrete as decEq}
 use lib.Dec.{eqb, leb, ltb}
 use lib.ListN.{length}
-use borrow.Author.Tests.{eqb-true, eqb-false, eq-eqb, ne-eqb, leb-true, leb-false, le-leb, lt-leb, ltb-true, lt-ltb}
-use Rattle.event.specs.declared.Interval.{Interval}
-use Rattle.event.specs.declared.Interval.the-variants.{None, Open, Closed}
+use borrow.Author.Tests.{eq-eqb, ne-eqb, leb-true, le-leb, ltb-true, lt-ltb}
 use Rattle.event.specs.Window.{lineOf}
-use Rattle.history.specs.Count.{count}
+use Rattle.event.proofs.Bools.{clash, fails, not-of, and-left, and-right, both}
 use Rattle.history.specs.History.{History, is, fences}
 use Rattle.history.specs.Interval.{epochAt, lastStore, fenceAfter, intervalOf}
-use Rattle.history.specs.View.{View, ofHistory}
-use Rattle.history.specs.Found.{isOpen, openedAt, closedBy, atRisk, breaks}
+use Rattle.history.specs.View.{ofHistory}
+use Rattle.history.specs.Found.{isOpen, openedAt, closedBy, breaks}
 use Rattle.history.specs.Image.{Forced}
-use Rattle.event.proofs.Bools.{clash, fails, not-of, and-left, and-right, both}
 use Rattle.history.proofs.Count.{count-mono, count-less}
 use Rattle.history.proofs.History.{is-number}
-use Rattle.history.proofs.Interval.{interval-none, interval-open, interval-closed, closing-fence, Closes, forced-closes, closes-forced}
+use Rattle.history.proofs.Interval.{interval-none, interval-open, interval-closed, closing-fence, forced-closes, closes-forced}
 use Rattle.history.proofs.Image.{Risk, PairRisk}
 
 -- a number that is not 0

@@ -1,7 +1,7 @@
 -- A claim admits one finding only.
 use mathlib.Core.Path.{_≡_, refl, sym, ap, subst, _∙_}
 use mathlib.Core.List.{_∷_}
-use Prim.Native.Nat.{ℕ, suc, _≤_, _<_}
+use Prim.Native.Nat.{ℕ, suc, _≤_}
 use native.Mathlib.Omega.{arith}
 use native.Mathlib.Decide.{decLe}
 use lib.ListN.{length}
@@ -10,12 +10,12 @@ use Rattle.event.specs.declared.Event.{Event}
 use Rattle.event.specs.declared.Event.the-variants.{Store, WriteBack, Fence, Begin, Log, End, Persisted, Ordered}
 use Rattle.event.specs.declared.Record.{Record}
 use Rattle.event.specs.declared.Finding.{Finding}
-use Rattle.event.specs.declared.Finding.the-variants.{None, Holds, Lost, OutOfOrder, Unlogged, Clean, WrittenTwice, LoggedTwice, Empty}
+use Rattle.event.specs.declared.Finding.the-variants.{Lost, Clean, WrittenTwice}
 use Rattle.event.specs.Window.{lineStart}
 use Rattle.history.specs.History.{History}
 use Rattle.history.specs.Interval.{lastStore}
-use Rattle.history.specs.Assertion.{Lowest, BrokenByte, Persists, BrokenPair, HasPartner, Orders}
-use Rattle.history.specs.Warning.{Warned, NeverStored, Wasted, WrittenBack}
+use Rattle.history.specs.Assertion.{Lowest, Persists, BrokenPair, HasPartner, Orders}
+use Rattle.history.specs.Warning.{Warned, NeverStored, WrittenBack}
 use Rattle.history.specs.Claim.{Ended, ClaimOf, Claim}
 
 -- two lowest numbers are one

@@ -1,6 +1,6 @@
 -- Event numbers from 1 to m that pass a test: how many, the last, the first after a given one. 0 stands for none.
-use Prim.Native.Nat.{ℕ, zero, suc}
 use mathlib.Core.Bool.{Bool, cond, _&&_}
+use Prim.Native.Nat.{ℕ, zero, suc}
 use lib.Dec.{ltb}
 
 -- how many of 1 to m pass

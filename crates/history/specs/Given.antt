@@ -1,6 +1,5 @@
 -- Events given one after another, refused ones among them: the accepted part, the answers, and the claim over the whole list.
 use mathlib.Core.List.{List, [], _∷_}
-use mathlib.Core.Bool.{Bool, cond}
 use Prim.Native.Nat.{ℕ}
 use Rattle.event.specs.declared.Record.{Record}
 use Rattle.event.specs.declared.Finding.{Finding}

@@ -1,7 +1,7 @@
 -- The list of accepted events, the newest first, and the number of each.
-use Prim.Native.Nat.{ℕ, suc}
 use mathlib.Core.Bool.{Bool, false, cond, _&&_}
 use mathlib.Core.List.{List, [], _∷_}
+use Prim.Native.Nat.{ℕ, suc}
 use lib.Dec.{eqb}
 use lib.ListN.{length}
 use Rattle.event.specs.declared.Event.{Event}

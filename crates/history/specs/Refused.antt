@@ -1,8 +1,8 @@
 -- What refuses an event, read off the window's lines, the events taken and the transactions open: the first number that applies.
 use mathlib.Core.Path.{_≡_}
-use Prim.Native.Nat.{ℕ}
 use mathlib.Core.Bool.{Bool, true, false, cond, _&&_, _||_}
 use mathlib.Core.List.{List, [], _∷_}
+use Prim.Native.Nat.{ℕ}
 use lib.Dec.{leb, eqb}
 use Rattle.event.specs.declared.Event.{Event}
 use Rattle.event.specs.declared.Refusal.{Refusal}

@@ -1,9 +1,9 @@
 -- The starred small runs of document 01, in two lines. Sites are 0.
-use Prim.Native.Nat.{ℕ}
 use mathlib.Core.List.{List, [], _∷_, map}
+use Prim.Native.Nat.{ℕ}
 use Rattle.event.specs.declared.Range.{Range}
 use Rattle.event.specs.declared.Event.{Event}
-use Rattle.event.specs.declared.Event.the-variants.{Store, WriteBack, Fence, Begin, Log, End, Persisted, Ordered}
+use Rattle.event.specs.declared.Event.the-variants.{Store, WriteBack, Fence, Begin, End, Persisted, Ordered}
 use Rattle.event.specs.declared.Record.{Record}
 use Rattle.event.specs.declared.Finding.{Finding}
 use Rattle.event.specs.declared.Finding.the-variants.{None, Holds, Lost, OutOfOrder, Unlogged, Clean}

@@ -1,6 +1,5 @@
 -- `event::window::line_start` meets its contract: the rule of the table is one computed test over its 64 entries.
 -- Assumes nothing.
-use mathlib.Core.Path.{refl}
 use borrow.Author.Tests.{le-ltb}
 use Rattle.event.specs.Window.{lineStart}
 use Rattle.event.proofs.Table.{at}
@@ -15,7 +14,7 @@ array-read-result : tie.Need-array-read-result
 array-read-result c = search needs
 
 returns : tie.Need-returns
-returns c = rw (at lineStart _ refl, c .if1 .taken)
+returns c = rw (at lineStart, tt, c .if1 .taken)
 
 returns-2 : tie.Need-returns-2
 returns-2 c = simp (le-ltb _ _ (c .if1 .left))
