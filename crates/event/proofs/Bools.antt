@@ -10,8 +10,8 @@ computed true t = refl
 computed false t = absurd t
 
 -- no test passes and fails
-pub clash : {b : Bool} → b ≡ true → b ≡ false → ⊥
-clash e f = true≢false (sym e ∙ f)
+pub contradiction : {b : Bool} → b ≡ true → b ≡ false → ⊥
+contradiction e f = true≢false (sym e ∙ f)
 
 -- what does not pass fails
 pub fails : (b : Bool) → (b ≡ true → ⊥) → b ≡ false

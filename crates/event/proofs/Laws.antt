@@ -5,8 +5,8 @@ use mathlib.Core.Bool.{Bool, true, false, _&&_, _||_}
 use mathlib.Core.Logic.{_⊎_, inl, inr}
 
 -- what a call ensures of its result, with what a test found of that result
-pub so : {A : Type 0} {x y z : A} → x ≡ y → x ≡ z → y ≡ z
-so p q = sym p ∙ q
+pub equal-by : {A : Type 0} {x y z : A} → x ≡ y → x ≡ z → y ≡ z
+equal-by p q = sym p ∙ q
 
 -- a flag of `||` is the `||` of its parts: by the first way the first part was true, by the second it was false
 pub or-flag : {X Y : Type 0} {p q flag : Bool} → X ⊎ Y → (X → (p ≡ true) × (flag ≡ p)) → (Y → (p ≡ false) × (flag ≡ q)) → flag ≡ (p || q)

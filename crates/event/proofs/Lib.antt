@@ -2,5 +2,5 @@
 pub mod Bools
 pub mod Laws
 pub mod Table
-pub mod Pins
+pub mod Meaning
 pub mod RoundTrip

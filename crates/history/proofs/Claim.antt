@@ -16,8 +16,8 @@ use Rattle.event.specs.declared.Record.{Record}
 use Rattle.event.specs.declared.Finding.{Finding}
 use Rattle.event.specs.declared.Finding.the-variants.{None, Lost, OutOfOrder, Empty}
 use Rattle.event.specs.Window.{windowBytes, lineOf, lineCount, covers}
-use Rattle.event.proofs.Bools.{clash, and-left, and-right, both}
-use Rattle.event.proofs.Pins.{covered, covering}
+use Rattle.event.proofs.Bools.{contradiction, and-left, and-right, both}
+use Rattle.event.proofs.Meaning.{covered, covering}
 use Rattle.history.specs.Count.{last}
 use Rattle.history.specs.History.{History, is, stores, storesByte}
 use Rattle.history.specs.Interval.{lastStore}
@@ -31,18 +31,18 @@ use Rattle.history.proofs.Search.{Least, Decides, least, LeastPair, lea
 use Rattle.history.proofs.Image.{Risk, risk-allowed, risk-loses, risk-broken, broken-risk, PairRisk, pair-risk, pair-kept, pair-broken, broken-pair}
 use Rattle.history.proofs.Interval.{last-store-within}
 use Rattle.history.proofs.Tests.{open-risk, risk-open, breaks-risk, risk-breaks}
-use Rattle.history.proofs.Quiet.{Quiet, quiet-last-store, quiet-interval}
+use Rattle.history.proofs.NoEffect.{NoEffect, last-store-unchanged, interval-unchanged}
 use Rattle.history.proofs.Warning.{warned, since-is, is-since, store-decides, log-decides, back-decides, written-back}
 
 -- every store that was accepted lies in the window
 abbrev pub Inside : ℕ → History → Type 0
 Inside lines h = (s b : ℕ) → is (storesByte b) h s ≡ true → b < windowBytes lines
 
-quiet-by : {d e : Event} → d ≡ e → Quiet e → Quiet d
-quiet-by k q = subst (λ (x : Event). Quiet x) (sym k) q
+no-effect-by : {d e : Event} → d ≡ e → NoEffect e → NoEffect d
+no-effect-by k q = subst (λ (x : Event). NoEffect x) (sym k) q
 
 -- an assertion, or an end, that follows h
-module _ (lines : ℕ) (h : History) (r : Record) (q : Quiet (r .event)) where
+module _ (lines : ℕ) (h : History) (r : Record) (q : NoEffect (r .event)) where
   abbrev now : History
   now = r ∷ h
 
@@ -51,10 +51,10 @@ module _ (lines : ℕ) (h : History) (r : Record) (q : Quiet (r .event)) where
 
   -- a byte is broken exactly if its interval is open
   open-broken : (b : ℕ) → atRisk (ofHistory lines h) b ≡ true → PersistedBroken now n b
-  open-broken b e = risk-broken now b n (le-refl n) (open-risk now b (ap isOpen (quiet-interval r h q b) ∙ e))
+  open-broken b e = risk-broken now b n (le-refl n) (open-risk now b (ap isOpen (interval-unchanged r h q b) ∙ e))
 
   broken-open : (b : ℕ) → PersistedBroken now n b → atRisk (ofHistory lines h) b ≡ true
-  broken-open b x = ap isOpen (sym (quiet-interval r h q b)) ∙ risk-open now b (broken-risk now b n x)
+  broken-open b x = ap isOpen (sym (interval-unchanged r h q b)) ∙ risk-open now b (broken-risk now b n x)
 
   -- the image meant shows a loss that is possible at moment m
   shown : (b m : ℕ) → Risk now b m → m ≤ n → Shown now m b
@@ -63,7 +63,7 @@ module _ (lines : ℕ) (h : History) (r : Record) (q : Quiet (r .event)) where
   durable-meets : (B : ℕ → Type 0) (o : Option ℕ) → Least (BrokenByte now n B) o → Persists now n B (durable (ofHistory lines h) o)
   durable-meets B none (Least.absent f) = Persists.holds f
   durable-meets B (some b) (Least.present x) =
-      subst (λ (s : ℕ). Persists now n B (Lost b n s)) (quiet-last-store r h q b)
+      subst (λ (s : ℕ). Persists now n B (Lost b n s)) (last-store-unchanged r h q b)
       (Persists.lost x (shown b n (broken-risk now b n (x .has .broken)) (le-refl n)))
 
   persisted-decides : (a : Range) → Decides (atRisk (ofHistory lines h)) (BrokenByte now n (λ b. covers a b ≡ true)) (a .address) (a .length)
@@ -76,7 +76,7 @@ module _ (lines : ℕ) (h : History) (r : Record) (q : Quiet (r .event)) where
       }
 
   breaks-now : (kept lost : ℕ) → breaks (ofHistory lines now) kept lost ≡ breaks (ofHistory lines h) kept lost
-  breaks-now kept lost = simp (quiet-last-store r h q, quiet-interval r h q)
+  breaks-now kept lost = simp (last-store-unchanged r h q, interval-unchanged r h q)
 
   ordered-decides : (a b : Range) (kept : ℕ) → covers b kept ≡ true → Decides (breaks (ofHistory lines h) kept) (BrokenPair now n a b kept) (a .address) (a .length)
   ordered-decides a b kept c =
@@ -91,7 +91,7 @@ module _ (lines : ℕ) (h : History) (r : Record) (q : Quiet (r .event)) where
   in-order a b none (LeastPair.absent f) = Orders.holds f
   in-order a b (some p) (LeastPair.present {kept = kept} {lost = lost} x y) =
       let risk : PairRisk now kept lost = broken-pair now (y .has .broken) in
-      subst₂ (λ (s t : ℕ). Orders now n a b (OutOfOrder lost kept s t)) (quiet-last-store r h q kept) (quiet-last-store r h q lost)
+      subst₂ (λ (s t : ℕ). Orders now n a b (OutOfOrder lost kept s t)) (last-store-unchanged r h q kept) (last-store-unchanged r h q lost)
       (Orders.outOfOrder x y (shown lost (lastStore now kept) (pair-risk now risk) (last-store-within now kept)) (pair-kept now risk))
 
   ended-decides : Inside lines h → Decides (λ b. storedSince (ofHistory lines h) b && atRisk (ofHistory lines h) b) (BrokenByte now n (λ b. Since h (storesByte b))) 0 (windowBytes lines)
@@ -116,7 +116,7 @@ module _ (lines : ℕ) (h : History) (r : Record) (q : Quiet (r .event)) where
 
       go : (b : Bool) → eqb (depth h) 1 ≡ b → (c : Bool) → ltb (outermost h) (last (is stores h) (length h)) ≡ c → Ended h now n (cond b (cond c judged Empty) None)
       go true e true s = Ended.outermost (eqb-true (depth h) 1 e) (since-is lines h stores s) (durable-meets (λ b. Since h (storesByte b)) _ (least _ _ 0 (windowBytes lines) (ended-decides inside)))
-      go true e false s = Ended.empty (eqb-true (depth h) 1 e) (λ x. clash (is-since lines h stores x) s)
+      go true e false s = Ended.empty (eqb-true (depth h) 1 e) (λ x. contradiction (is-since lines h stores x) s)
       go false e c s = Ended.inner (eqb-false (depth h) 1 e)
 
 -- the finding of each kind of event
@@ -127,12 +127,12 @@ meets lines h inside r (WriteBack a) k = written-back lines h a _ (least _ _ (li
 meets lines h inside r Fence k = refl
 meets lines h inside r Begin k = refl
 meets lines h inside r (Log a) k = warned _ (least _ _ (a .address) (a .length) (log-decides lines h a))
-meets lines h inside r End k = ended-meets lines h r (quiet-by k (record { noStore = refl; noBack = refl; noFence = refl })) inside
+meets lines h inside r End k = ended-meets lines h r (no-effect-by k (record { noStore = refl; noBack = refl; noFence = refl })) inside
 meets lines h inside r (Persisted a) k =
-    let q = quiet-by k (record { noStore = refl; noBack = refl; noFence = refl }) in
+    let q = no-effect-by k (record { noStore = refl; noBack = refl; noFence = refl }) in
     durable-meets lines h r q (λ b. covers a b ≡ true) _ (least _ _ (a .address) (a .length) (persisted-decides lines h r q a))
 meets lines h inside r (Ordered a b) k =
-    let q = quiet-by k (record { noStore = refl; noBack = refl; noFence = refl }) in
+    let q = no-effect-by k (record { noStore = refl; noBack = refl; noFence = refl }) in
     in-order lines h r q a b _
     (least-pair (breaks (ofHistory lines h)) a (BrokenPair (r ∷ h) (suc (length h)) a b) (b .address) (b .length)
     (λ kept from to. least _ _ (a .address) (a .length) (ordered-decides lines h r q a b kept (covering b kept from to)))

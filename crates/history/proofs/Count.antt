@@ -8,7 +8,7 @@ use native.Mathlib.Decide.{decLe}
 use native.Mathlib.Omega.{arith}
 use lib.Dec.{ltb}
 use borrow.Author.Tests.{ltb-true, lt-ltb}
-use Rattle.event.proofs.Bools.{clash, and-left, and-right, both}
+use Rattle.event.proofs.Bools.{contradiction, and-left, and-right, both}
 use Rattle.history.specs.Count.{count, last, first, orElse}
 
 -- a number up to suc m is suc m or up to m
@@ -84,7 +84,7 @@ module _ (p : ℕ → Bool) where
     where
       go : (b : Bool) → p (suc m) ≡ b → (i ≡ suc m) ⊎ (i ≤ m) → (i ≤ m → i ≤ last p m) → i ≤ cond b (suc m) (last p m)
       go true e k rec = h
-      go false e (inl k) rec = absurd (clash t (ap p k ∙ e))
+      go false e (inl k) rec = absurd (contradiction t (ap p k ∙ e))
       go false e (inr k) rec = rec k
 
   -- the first: where it is not 0 it passes, after s and by m

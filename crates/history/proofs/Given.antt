@@ -14,7 +14,7 @@ use Rattle.event.specs.declared.Check.the-variants.{Passed, Refused as Breaks}
 use Rattle.event.specs.declared.Answer.{Answer}
 use Rattle.event.specs.declared.Answer.the-variants.{Refused, Found}
 use Rattle.event.specs.Window.{windowBytes, isPast, rangesOf, anyRange}
-use Rattle.event.proofs.Bools.{clash, and-right}
+use Rattle.event.proofs.Bools.{contradiction, and-right}
 use Rattle.history.specs.History.{History, is, stores, coversByte, storesByte}
 use Rattle.history.specs.View.{ofHistory}
 use Rattle.history.specs.Refused.{Limit, limitsBy, First, NoneBroken, firstBroken, refusalBy}
@@ -59,12 +59,12 @@ answer-found lines h r k = ap (λ (c : Check). answerFor c (findingBy (ofHistory
 -- one number applies first, and not beside none
 one-number : {limits : List Limit} {x y : Refusal} → First limits x → First limits y → x ≡ y
 one-number (First.here a) (First.here b) = refl
-one-number (First.here a) (First.later b c) = absurd (clash a b)
-one-number (First.later b c) (First.here a) = absurd (clash a b)
+one-number (First.here a) (First.later b c) = absurd (contradiction a b)
+one-number (First.later b c) (First.here a) = absurd (contradiction a b)
 one-number (First.later a b) (First.later c d) = one-number b d
 
 not-both : {limits : List Limit} {x : Refusal} → First limits x → NoneBroken limits → ⊥
-not-both (First.here a) (NoneBroken.cons b c) = clash a b
+not-both (First.here a) (NoneBroken.cons b c) = contradiction a b
 not-both (First.later a b) (NoneBroken.cons c d) = not-both b d
 
 -- what no number refuses lies in the window
@@ -73,7 +73,7 @@ within lines h e (NoneBroken.cons a (NoneBroken.cons b c)) = b
 
 pub inside-empty : (lines : ℕ) → Inside lines []
 unfolding is
-inside-empty lines s b t = absurd (clash t refl)
+inside-empty lines s b t = absurd (contradiction t refl)
 
 pub inside-taken : (lines : ℕ) (h : History) (r : Record) → Inside lines h → Accepted lines h r → Inside lines (r ∷ h)
 inside-taken lines h r inside k s b t = go (decEq s (suc (length h)))

@@ -11,7 +11,7 @@ use lib.ListN.{length}
 use borrow.Author.Tests.{eqb-true, eq-eqb, ne-eqb}
 use Rattle.event.specs.declared.Event.{Event}
 use Rattle.event.specs.declared.Record.{Record}
-use Rattle.event.proofs.Bools.{clash, fails}
+use Rattle.event.proofs.Bools.{contradiction, fails}
 use Rattle.history.specs.History.{History, is}
 use Rattle.history.specs.Count.{count, last}
 use Rattle.history.proofs.Count.{count-same, last-passes, last-latest}
@@ -34,7 +34,7 @@ module _ (p : Event → Bool) where
 
   pub is-number : (h : History) (i : ℕ) → is p h i ≡ true → Number h i
   unfolding is
-  is-number [] i e = absurd (clash e refl)
+  is-number [] i e = absurd (contradiction e refl)
   is-number (r ∷ h) i e = go (eqb i (suc (length h))) refl e (is-number h i)
     where
       go : (b : Bool) → eqb i (suc (length h)) ≡ b → cond b (p (r .event)) (is p h i) ≡ true → (is p h i ≡ true → Number h i) → Number (r ∷ h) i
@@ -50,8 +50,8 @@ module _ (p : Event → Bool) where
   is-beyond h i k = fails (is p h i) (λ e. omega (arith, is-number h i e .within))
 
   -- an event that does not pass changes no answer
-  pub is-quiet : (r : Record) (h : History) → p (r .event) ≡ false → is p (r ∷ h) ≡ is p h
-  is-quiet r h f = fun-ext (λ i. at i (decEq i (suc (length h))))
+  pub is-unchanged : (r : Record) (h : History) → p (r .event) ≡ false → is p (r ∷ h) ≡ is p h
+  is-unchanged r h f = fun-ext (λ i. at i (decEq i (suc (length h))))
     where
       at : (i : ℕ) → Dec (i ≡ suc (length h)) → is p (r ∷ h) i ≡ is p h i
       at i (yes e) = rw e (is-newest r h ∙ f ∙ sym (is-beyond h (suc (length h)) (omega arith)))
@@ -79,7 +79,7 @@ module _ (p : Event → Bool) where
 -- a test that another one implies
 pub is-implied : (p q : Event → Bool) → ((e : Event) → p e ≡ true → q e ≡ true) → (h : History) (i : ℕ) → is p h i ≡ true → is q h i ≡ true
 unfolding is
-is-implied p q f [] i e = absurd (clash e refl)
+is-implied p q f [] i e = absurd (contradiction e refl)
 is-implied p q f (r ∷ h) i e = go (eqb i (suc (length h))) e (is-implied p q f h i)
   where
     go : (b : Bool) → cond b (p (r .event)) (is p h i) ≡ true → (is p h i ≡ true → is q h i ≡ true) → cond b (q (r .event)) (is q h i) ≡ true

@@ -6,11 +6,11 @@ pub mod Interval  -- last stores, intervals and forced stores
 pub mod Image  -- what an allowed crash image can lose
 pub mod Search  -- what a search from the front finds
 pub mod Tests  -- the computed tests say what crash images say
-pub mod Quiet  -- an assertion changes no last store and no interval
+pub mod NoEffect  -- an assertion changes no last store and no interval
 pub mod Warning  -- the computed warnings meet their claims
 pub mod Claim  -- the computed finding meets its claim
 pub mod Unique  -- a claim admits one finding only
 pub mod Given  -- the answers to a whole list meet the one claim
 pub mod Exactly  -- holds is said exactly when no allowed image breaks the assertion
-pub mod Pins  -- the basic definitions in plain words
+pub mod Meaning  -- the basic definitions in plain words
 pub mod Small  -- the starred small runs

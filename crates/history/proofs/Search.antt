@@ -6,7 +6,7 @@ use Prim.Native.Nat.{ℕ, zero, suc, _+_, _≤_, _<_}
 use native.Mathlib.Omega.{arith}
 use native.Mathlib.Decide.{ℕ-discrete as decEq}
 use Rattle.event.specs.declared.Range.{Range}
-use Rattle.event.proofs.Bools.{clash}
+use Rattle.event.proofs.Bools.{contradiction}
 use Rattle.history.specs.Found.{lowest, lowestIn, lowestPair, orPair, Pair}
 use Rattle.history.specs.Assertion.{Lowest}
 
@@ -33,7 +33,7 @@ fewer {p} {P} {x} {n} d e =
     }
   where
     above : (z : ℕ) → P z → Dec (z ≡ x) → suc x ≤ z
-    above z y (yes k) = absurd (clash (rw k at (d .complete z y)) e)
+    above z y (yes k) = absurd (contradiction (rw k at (d .complete z y)) e)
     above z y (no k) = omega (arith, d .from z y)
 
 pub least : (p : ℕ → Bool) (P : ℕ → Type 0) (x n : ℕ) → Decides p P x n → Least P (lowest p x n)

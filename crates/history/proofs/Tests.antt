@@ -9,7 +9,7 @@ use lib.Dec.{eqb, leb, ltb}
 use lib.ListN.{length}
 use borrow.Author.Tests.{eq-eqb, ne-eqb, leb-true, le-leb, ltb-true, lt-ltb}
 use Rattle.event.specs.Window.{lineOf}
-use Rattle.event.proofs.Bools.{clash, fails, not-of, and-left, and-right, both}
+use Rattle.event.proofs.Bools.{contradiction, fails, not-of, and-left, and-right, both}
 use Rattle.history.specs.History.{History, is, fences}
 use Rattle.history.specs.Interval.{epochAt, lastStore, fenceAfter, intervalOf}
 use Rattle.history.specs.View.{ofHistory}
@@ -22,7 +22,7 @@ use Rattle.history.proofs.Image.{Risk, PairRisk}
 
 -- a number that is not 0
 pub not-zero : (n : ℕ) → not (eqb n 0) ≡ true → n ≢ 0
-not-zero n e z = clash (rw (eq-eqb n 0 z) at e) refl
+not-zero n e z = contradiction (rw (eq-eqb n 0 z) at e) refl
 
 pub zero-not : (n : ℕ) → n ≢ 0 → not (eqb n 0) ≡ true
 zero-not n f = rw (ne-eqb n 0 f)
@@ -33,9 +33,9 @@ module _ (h : History) where
   open-risk b e = go (decEq (lastStore h b) 0) (decEq (fenceAfter h (lineOf b) (lastStore h b)) 0)
     where
       go : Dec (lastStore h b ≡ 0) → Dec (fenceAfter h (lineOf b) (lastStore h b) ≡ 0) → Risk h b (length h)
-      go (yes z) d = absurd (clash (rw (interval-none h b z) at e) refl)
+      go (yes z) d = absurd (contradiction (rw (interval-none h b z) at e) refl)
       go (no s) (yes z) = record { stored = s; free = λ f. forced-closes h f .there z }
-      go (no s) (no z) = absurd (clash (rw (interval-closed h b s z) at e) refl)
+      go (no s) (no z) = absurd (contradiction (rw (interval-closed h b s z) at e) refl)
 
   pub risk-open : (b : ℕ) → Risk h b (length h) → isOpen (intervalOf h b) ≡ true
   risk-open b x = go (decEq (fenceAfter h (lineOf b) (lastStore h b)) 0)
@@ -77,7 +77,7 @@ module _ (h : History) where
     closed-forced e = go (decEq closing 0)
       where
         go : Dec (closing ≡ 0) → Forced h (lineOf lost) (lastStore h lost) (lastStore h kept)
-        go (yes z) = absurd (clash (rw (interval-open h lost lostStored z) at e) refl)
+        go (yes z) = absurd (contradiction (rw (interval-open h lost lostStored z) at e) refl)
         go (no z) = closes-forced h (record { there = z; by = fence-by closing (lastStore h kept) (closing-fence h (lineOf lost) (lastStore h lost) z) (leb-true _ _ (sym (closed-test z) ∙ e)) })
 
     forced-closed : Forced h (lineOf lost) (lastStore h lost) (lastStore h kept) → closedBy (intervalOf h lost) (openedAt (intervalOf h kept)) ≡ true
@@ -103,7 +103,7 @@ module _ (h : History) where
         keptStored = keptStored;
         lostStored = lostStored;
         together = λ s. ltb-true _ _ (rw (eq-eqb (lineOf kept) (lineOf lost) s) at line);
-        apart = λ n f. clash (rw (ne-eqb (lineOf kept) (lineOf lost) n, forced-closed kept lost keptStored lostStored f) at line) refl;
+        apart = λ n f. contradiction (rw (ne-eqb (lineOf kept) (lineOf lost) n, forced-closed kept lost keptStored lostStored f) at line) refl;
       }
 
   pub risk-breaks : (lines kept lost : ℕ) → PairRisk h kept lost → breaks (ofHistory lines h) kept lost ≡ true

@@ -28,9 +28,9 @@ lowest-one P x y a b = go (decLe x y) (decLe y x)
     go (no h) d = absurd (a .lower y (omega arith) (b .has))
 
 one-warning : {P : ℕ → Type 0} {warning : ℕ → Finding} {f g : Finding} → Warned P warning f → Warned P warning g → f ≡ g
-one-warning (Warned.quiet a) (Warned.quiet b) = refl
-one-warning (Warned.quiet a) (Warned.warns {x = x} b) = absurd (a x (b .has))
-one-warning (Warned.warns {x = x} a) (Warned.quiet b) = absurd (b x (a .has))
+one-warning (Warned.none a) (Warned.none b) = refl
+one-warning (Warned.none a) (Warned.warns {x = x} b) = absurd (a x (b .has))
+one-warning (Warned.warns {x = x} a) (Warned.none b) = absurd (b x (a .has))
 one-warning {P = P} {warning = warning} (Warned.warns {x = x} a) (Warned.warns {x = y} b) = ap warning (lowest-one P x y a b)
 
 pub one-persisted : {now : History} {n : ℕ} {B : ℕ → Type 0} {f g : Finding} → Persists now n B f → Persists now n B g → f ≡ g

@@ -13,8 +13,8 @@ use Rattle.event.specs.declared.Event.{Event}
 use Rattle.event.specs.declared.Finding.{Finding}
 use Rattle.event.specs.declared.Finding.the-variants.{None}
 use Rattle.event.specs.Window.{lineOf, lineCount}
-use Rattle.event.proofs.Bools.{clash, fails, fails-not, not-of, and-left, and-right, both, or-cases, or-left, or-right}
-use Rattle.event.proofs.Pins.{covered, covering, touched, touched-below, below-touched}
+use Rattle.event.proofs.Bools.{contradiction, fails, fails-not, not-of, and-left, and-right, both, or-cases, or-left, or-right}
+use Rattle.event.proofs.Meaning.{covered, covering, touched, touched-below, below-touched}
 use Rattle.history.specs.Count.{last}
 use Rattle.history.specs.History.{History, is, storesLine, writesBackLine, logsByte}
 use Rattle.history.specs.Transaction.{depth, outermost, Since}
@@ -27,7 +27,7 @@ use Rattle.history.proofs.Tests.{not-zero, zero-not}
 
 -- a warning is of the lowest number
 pub warned : {P : ℕ → Type 0} {warning : ℕ → Finding} (o : Option ℕ) → Least P o → Warned P warning (foundOr o None warning)
-warned none (Least.absent f) = Warned.quiet f
+warned none (Least.absent f) = Warned.none f
 warned (some x) (Least.present l) = Warned.warns l
 
 module _ (lines : ℕ) (h : History) where
@@ -47,7 +47,7 @@ module _ (lines : ℕ) (h : History) where
             record {
               covered = covering a b from to;
               inside = not-zero (depth h) (and-left (not (eqb (depth h) 0)) (not (logged (ofHistory lines h) b)) e);
-              unlogged = λ s. clash (is-since (logsByte b) s) (not-true (logged (ofHistory lines h) b) (and-right (not (eqb (depth h) 0)) (not (logged (ofHistory lines h) b)) e));
+              unlogged = λ s. contradiction (is-since (logsByte b) s) (not-true (logged (ofHistory lines h) b) (and-right (not (eqb (depth h) 0)) (not (logged (ofHistory lines h) b)) e));
             };
         complete = λ b y. both (zero-not (depth h) (y .inside)) (not-of (fails _ (λ e. y .unlogged (since-is (logsByte b) e))));
         from = λ b y. covered a b (y .covered) .from;

@@ -7,8 +7,8 @@ use Prim.Native.Nat.{ℕ, _<_}
 use Rattle.event.specs.declared.Range.{Range}
 use Rattle.event.specs.declared.Event.{Event}
 use Rattle.event.specs.Window.{windowBytes, covers, touches, lineOf, isPast, rangesOf, anyRange}
-use Rattle.event.proofs.Bools.{clash, fails, and-left, and-right, both, or-cases, or-left, or-right}
-use Rattle.event.proofs.Pins.{byte-touches, inside-window}
+use Rattle.event.proofs.Bools.{contradiction, fails, and-left, and-right, both, or-cases, or-left, or-right}
+use Rattle.event.proofs.Meaning.{byte-touches, inside-window}
 use Rattle.history.specs.History.{stores, coversByte, storesByte, storesLine}
 
 any-implied : (p q : Range → Bool) → ((a : Range) → p a ≡ true → q a ≡ true) → (rs : List Range) → anyRange p rs ≡ true → anyRange q rs ≡ true
@@ -24,8 +24,8 @@ stores-line b e t =
 
 -- a byte that the ranges cover lies in the window, where none of them runs past it
 pub covers-inside : (lines b : ℕ) (rs : List Range) → anyRange (isPast lines) rs ≡ false → anyRange (λ a. covers a b) rs ≡ true → b < windowBytes lines
-covers-inside lines b [] k t = absurd (clash t k)
+covers-inside lines b [] k t = absurd (contradiction t k)
 covers-inside lines b (a ∷ rs) k t =
-    ⊎-elim (λ (c : covers a b ≡ true). inside-window lines a (fails _ (λ e. clash (or-left (anyRange (isPast lines) rs) e) k)) b c)
-    (λ (c : anyRange (λ a. covers a b) rs ≡ true). covers-inside lines b rs (fails _ (λ e. clash (or-right (isPast lines a) e) k)) c)
+    ⊎-elim (λ (c : covers a b ≡ true). inside-window lines a (fails _ (λ e. contradiction (or-left (anyRange (isPast lines) rs) e) k)) b c)
+    (λ (c : anyRange (λ a. covers a b) rs ≡ true). covers-inside lines b rs (fails _ (λ e. contradiction (or-right (isPast lines a) e) k)) c)
     (or-cases (covers a b) (anyRange (λ a. covers a b) rs) t)

@@ -13,7 +13,7 @@ use Rattle.history.specs.Assertion.{Lowest}
 
 -- a warning names the lowest number with the property; there is none where no number has it
 pub data Warned (P : ℕ → Type 0) (warning : ℕ → Finding) : Finding → Type 0 where
-  quiet : ((x : ℕ) → P x → ⊥) → Warned P warning None
+  none : ((x : ℕ) → P x → ⊥) → Warned P warning None
   warns : {x : ℕ} → Lowest P x → Warned P warning (warning x)
 
 -- unlogged: a byte of a store inside a transaction, not logged since the outermost begin

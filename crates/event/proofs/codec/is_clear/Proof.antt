@@ -5,7 +5,7 @@ use mathlib.Core.Bool.{_&&_, _||_}
 use lib.Dec.{eqb}
 use borrow.Author.Tests.{eq-eqb, ne-eqb}
 use Rattle.event.specs.Codec.{usesA, isZero}
-use Rattle.event.proofs.Laws.{so, and-flag}
+use Rattle.event.proofs.Laws.{equal-by, and-flag}
 use borrow.Author.Needs.{needs}
 use Rattle.event.proofs.codec.is_clear.Statement.{statement}
 use Rattle.event.proofs.codec.is_clear.Tie as tie
@@ -29,10 +29,10 @@ used-or-zero-requires-2 : tie.Need-used-or-zero-requires-2
 used-or-zero-requires-2 c κs = search needs
 
 returns : tie.Need-returns
-returns c = simp (so (flag (c .before .before .before)) (c .before .before .if2 .taken), c .used-or-zero2 .ensures, c .before .uses-b .ensures)
+returns c = simp (equal-by (flag (c .before .before .before)) (c .before .before .if2 .taken), c .used-or-zero2 .ensures, c .before .uses-b .ensures)
 
 returns-2 : tie.Need-returns-2
-returns-2 c = simp (so (flag (c .before)) (c .if2 .left), c .if2 .left)
+returns-2 c = simp (equal-by (flag (c .before)) (c .if2 .left), c .if2 .left)
 
 pub is-clear-spec : {M : Type 1} → statement M
 is-clear-spec =

@@ -5,7 +5,7 @@ use lib.ListN.{getD}
 use denote.Ref.{now}
 use borrow.Author.Tests.{not-true, not-false}
 use Rattle.event.specs.Codec.{rangeAt, isKind, isClear}
-use Rattle.event.proofs.Laws.{so}
+use Rattle.event.proofs.Laws.{equal-by}
 use borrow.Author.Needs.{needs}
 use Rattle.event.proofs.codec.read_record.Statement.{statement}
 use Rattle.event.proofs.codec.read_record.Tie as tie
@@ -27,7 +27,7 @@ is-kind-requires : tie.Need-is-kind-requires
 is-kind-requires c κs = search needs
 
 returns : tie.Need-returns
-returns c = simp (so (known (c .before)) (not-true _ (c .if1 .taken)))
+returns c = simp (equal-by (known (c .before)) (not-true _ (c .if1 .taken)))
 
 range-at-requires : tie.Need-range-at-requires
 range-at-requires c κs = search needs
@@ -44,7 +44,7 @@ is-clear-requires c κs = search needs
 returns-2 : tie.Need-returns-2
 returns-2 c =
     let k = c .before .before .before .before .before in
-    simp (so (known (k .before)) (not-false _ (k .if1 .left)), so (clear (c .before)) (not-true _ (c .if2 .taken)))
+    simp (equal-by (known (k .before)) (not-false _ (k .if1 .left)), equal-by (clear (c .before)) (not-true _ (c .if2 .taken)))
 
 event-of-requires : tie.Need-event-of-requires
 event-of-requires c κs = search needs
@@ -58,8 +58,8 @@ returns-3 c =
     let b = d .before .before .before in
     let k = b .before .before in
     simp (
-      so (known (k .before)) (not-false _ (k .if1 .left)),
-      so (clear (d .before)) (not-false _ (d .if2 .left)),
+      equal-by (known (k .before)) (not-false _ (k .if1 .left)),
+      equal-by (clear (d .before)) (not-false _ (d .if2 .left)),
       c .before .event-of .ensures,
       c .u16-at .ensures,
       b .range-at2 .ensures,

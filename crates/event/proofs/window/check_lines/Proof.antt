@@ -4,7 +4,7 @@ use mathlib.Core.Path.{_≡_}
 use mathlib.Core.Bool.{_||_}
 use lib.Dec.{eqb, ltb}
 use borrow.Author.Tests.{eq-eqb, ne-eqb}
-use Rattle.event.proofs.Laws.{so, or-flag}
+use Rattle.event.proofs.Laws.{equal-by, or-flag}
 use Rattle.event.proofs.window.check_lines.Statement.{statement}
 use Rattle.event.proofs.window.check_lines.Tie as tie
 
@@ -13,10 +13,10 @@ flag : (c : tie.Joined1) → c .if1 .if2 ≡ (eqb (c .before .args .lines) 0 || 
 flag c = or-flag (c .if1 .came) (λ w. (eq-eqb _ 0 (w .0 .taken), w .1)) (λ w. (ne-eqb _ 0 (w .0 .left), w .1))
 
 returns : tie.Need-returns
-returns c = simp (so (flag (c .before)) (c .if2 .taken))
+returns c = simp (equal-by (flag (c .before)) (c .if2 .taken))
 
 returns-2 : tie.Need-returns-2
-returns-2 c = simp (so (flag (c .before)) (c .if2 .left))
+returns-2 c = simp (equal-by (flag (c .before)) (c .if2 .left))
 
 pub check-lines-spec : {M : Type 1} → statement M
 check-lines-spec = tie.close (tie.spec returns returns-2)

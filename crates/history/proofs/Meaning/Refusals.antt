@@ -15,7 +15,7 @@ use Rattle.event.specs.declared.Refusal.{Refusal}
 use Rattle.event.specs.declared.Refusal.the-variants.{EmptyRange, PastWindow, EventsExhausted, NoTransaction, TooDeep}
 use Rattle.event.specs.Numbers.{kindOf, numberOf}
 use Rattle.event.specs.Window.{isEmpty, isPast, rangesOf, anyRange}
-use Rattle.event.proofs.Bools.{clash, and-left, and-right, both, or-cases, or-left, or-right}
+use Rattle.event.proofs.Bools.{contradiction, and-left, and-right, both, or-cases, or-left, or-right}
 use Rattle.history.specs.History.{History, begins, logs, ends}
 use Rattle.history.specs.Transaction.{depth}
 use Rattle.history.specs.View.{ofHistory}
@@ -39,7 +39,7 @@ pub data Applies (lines : ℕ) (h : History) (e : Event) : Refusal → Type 0 wh
   tooDeep : kindOf e ≡ 4 → 8 ≤ depth h → Applies lines h e TooDeep
 
 any-range : (p : Range → Bool) (rs : List Range) → anyRange p rs ≡ true → (a : Range) × List·Memᴰ a rs × (p a ≡ true)
-any-range p [] e = absurd (clash e refl)
+any-range p [] e = absurd (contradiction e refl)
 any-range p (r ∷ rs) e = go (or-cases (p r) (anyRange p rs) e) (any-range p rs)
   where
     go : (p r ≡ true) ⊎ (anyRange p rs ≡ true) → (anyRange p rs ≡ true → (a : Range) × List·Memᴰ a rs × (p a ≡ true)) → (a : Range) × List·Memᴰ a (r ∷ rs) × (p a ≡ true)
@@ -77,8 +77,8 @@ refused-applies lines h r (First.later a (First.later b (First.later c (First.la
 
 -- and none applies to one that is accepted
 pub accepted-none : (lines : ℕ) (h : History) (r : Record) {x : Refusal} → Accepted lines h r → Applies lines h (r .event) x → ⊥
-accepted-none lines h r (NoneBroken.cons f k) (Applies.emptyRange m e) = clash (range-any isEmpty m (eq-eqb _ 0 e)) f
-accepted-none lines h r (NoneBroken.cons a (NoneBroken.cons f k)) (Applies.pastWindow m e) = clash (range-any (isPast lines) m (lt-ltb _ _ e)) f
-accepted-none lines h r (NoneBroken.cons a (NoneBroken.cons b (NoneBroken.cons f k))) (Applies.exhausted e) = clash (le-leb _ _ e) f
-accepted-none lines h r (NoneBroken.cons a (NoneBroken.cons b (NoneBroken.cons c (NoneBroken.cons f k)))) (Applies.noTransaction t e) = clash (both (asks-open (r .event) t) (eq-eqb _ 0 e)) f
-accepted-none lines h r (NoneBroken.cons a (NoneBroken.cons b (NoneBroken.cons c (NoneBroken.cons d (NoneBroken.cons f k))))) (Applies.tooDeep t e) = clash (both (eq-eqb (kindOf (r .event)) 4 t) (le-leb _ _ e)) f
+accepted-none lines h r (NoneBroken.cons f k) (Applies.emptyRange m e) = contradiction (range-any isEmpty m (eq-eqb _ 0 e)) f
+accepted-none lines h r (NoneBroken.cons a (NoneBroken.cons f k)) (Applies.pastWindow m e) = contradiction (range-any (isPast lines) m (lt-ltb _ _ e)) f
+accepted-none lines h r (NoneBroken.cons a (NoneBroken.cons b (NoneBroken.cons f k))) (Applies.exhausted e) = contradiction (le-leb _ _ e) f
+accepted-none lines h r (NoneBroken.cons a (NoneBroken.cons b (NoneBroken.cons c (NoneBroken.cons f k)))) (Applies.noTransaction t e) = contradiction (both (asks-open (r .event) t) (eq-eqb _ 0 e)) f
+accepted-none lines h r (NoneBroken.cons a (NoneBroken.cons b (NoneBroken.cons c (NoneBroken.cons d (NoneBroken.cons f k))))) (Applies.tooDeep t e) = contradiction (both (eq-eqb (kindOf (r .event)) 4 t) (le-leb _ _ e)) f

@@ -14,8 +14,8 @@ use Rattle.event.specs.declared.Finding.{Finding}
 use Rattle.event.specs.Numbers.{kindOf}
 use Rattle.event.specs.Window.{windowBytes, lineOf, lineStart, rangeEnd, covers, isEmpty, touches, lineCount, isPast}
 use Rattle.event.specs.Codec.{u16At, isKind, eventOf, u16Bytes, findingBytes}
-use Rattle.event.proofs.Bools.{clash, and-left, and-right, both}
-use Rattle.event.proofs.Laws.{so}
+use Rattle.event.proofs.Bools.{contradiction, and-left, and-right, both}
+use Rattle.event.proofs.Laws.{equal-by}
 use Rattle.event.proofs.Table.{at}
 
 -- A range covers the bytes from its address on that lie before its end.
@@ -96,11 +96,11 @@ past-window lines r past some =
 
 -- The event of a kind has that kind: one computed test over the eight kinds.
 pub kind-of-event : (kind : ℕ) (a b : Range) → isKind kind ≡ true → kindOf (eventOf kind a b) ≡ kind
-kind-of-event zero a b e = absurd (clash e refl)
+kind-of-event zero a b e = absurd (contradiction e refl)
 kind-of-event (suc n) a b e =
     let kinds : List ℕ = 1 ∷ 2 ∷ 3 ∷ 4 ∷ 5 ∷ 6 ∷ 7 ∷ 8 ∷ [] in
     let below : n < 8 = omega (arith, leb-true (suc n) 8 (and-right (leb 1 (suc n)) (leb (suc n) 8) e)) in
-    so (at (λ k. kindOf (eventOf (suc k) a b)) kinds tt n below) (at suc kinds tt n below)
+    equal-by (at (λ k. kindOf (eventOf (suc k) a b)) kinds tt n below) (at suc kinds tt n below)
 
 -- A u16 written as two bytes is read back.
 pub u16-round-trip : (n : ℕ) → u16At (u16Bytes n) 0 ≡ n

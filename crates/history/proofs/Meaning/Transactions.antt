@@ -17,7 +17,7 @@ use Rattle.history.specs.History.{History, is, begins, logs, ends}
 use Rattle.history.specs.Transaction.{depth, depthAfter, outermost}
 use Rattle.history.specs.Refused.{NoneBroken, asksOpen}
 use Rattle.history.proofs.History.{count-newest}
-use Rattle.history.proofs.Pins.Accepted.{Taken}
+use Rattle.history.proofs.Meaning.Accepted.{Taken}
 
 -- an accepted list has at most 8 transactions open
 depth-next : (e : Event) (d : ℕ) → d ≤ 8 → begins e && leb 8 d ≡ false → depthAfter e d ≤ 8
