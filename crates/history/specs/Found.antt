@@ -51,6 +51,7 @@ clean v l = eqb (v .lineStore l) 0
 abbrev pub writtenTwice : View → ℕ → Bool
 writtenTwice v l = not (clean v l) && ltb (v .lineStore l) (v .lineBack l)
 
+-- the warning of a line that fits either, with its start address
 abbrev pub warnedLine : View → ℕ → Finding
 warnedLine v l = cond (clean v l) (Clean (lineStart l)) (WrittenTwice (lineStart l))
 
@@ -60,6 +61,7 @@ isOpen NoInterval = false
 isOpen (Open e) = true
 isOpen (Closed e f) = false
 
+-- a persisted is broken at the byte
 abbrev pub atRisk : View → ℕ → Bool
 atRisk v b = isOpen (v .interval b)
 
@@ -88,19 +90,22 @@ breaks v kept lost =
     (ltb (v .lastStore kept) (v .lastStore lost))
     (not (closedBy (v .interval lost) (openedAt (v .interval kept))))
 
--- the lowest of the n kept bytes from x on that has a lost partner in the range, with its lowest partner
+-- a kept byte and a lost one
 pub record Pair : Type 0 where
   pub kept : ℕ
   pub lost : ℕ
 
+-- the pair of the byte with the partner found, or what the rest gives where none was found
 abbrev pub orPair : ℕ → Option ℕ → Option Pair → Option Pair
 orPair kept none rest = rest
 orPair kept (some lost) rest = some (record { kept = kept; lost = lost })
 
+-- the lowest of the n bytes from x on that has a partner in the range, with its lowest partner
 unfoldable pub lowestPair : (ℕ → ℕ → Bool) → Range → ℕ → ℕ → Option Pair
 lowestPair p a x zero = none
 lowestPair p a x (suc n) = let rest = lowestPair p a (suc x) n in orPair x (lowestIn (p x) a) rest
 
+-- holds, or out of order at the pair found; the kept byte's last store is the moment
 abbrev pub inOrder : View → Option Pair → Finding
 inOrder v none = Holds
 inOrder v (some p) = OutOfOrder (p .lost) (p .kept) (v .lastStore (p .kept)) (v .lastStore (p .lost))
@@ -112,6 +117,7 @@ ended v =
     (durable v (lowest (λ b. storedSince v b && atRisk v b) 0 (windowBytes (v .lines))))
     Empty
 
+-- the finding of each kind of event
 unfoldable pub findingBy : View → Event → Finding
 findingBy v (Store a) = foundOr (lowestIn (unlogged v) a) None Unlogged
 findingBy v (WriteBack a) = foundOr (lowest (λ l. clean v l || writtenTwice v l) (lineOf (a .address)) (lineCount a)) None (warnedLine v)

@@ -20,9 +20,11 @@ abbrev pub windowFor : Check → ℕ → ℕ
 windowFor Passed asked = asked
 windowFor (Breaks x) asked = 1
 
+-- the lines of the window
 abbrev pub windowOf : ℕ → ℕ
 windowOf asked = windowFor (linesCheck asked) asked
 
+-- the refusal, or the finding where the check of the limits passed
 abbrev pub answerFor : Check → Finding → Answer
 answerFor Passed f = Found f
 answerFor (Breaks x) f = Refused x

@@ -17,6 +17,7 @@ use Rattle.history.specs.View.{View}
 abbrev pub mostEvents : ℕ
 mostEvents = 65535
 
+-- transactions nest to this depth
 abbrev pub mostDepth : ℕ
 mostDepth = 8
 
@@ -57,5 +58,6 @@ abbrev pub firstBroken : List Limit → Check
 firstBroken [] = Passed
 firstBroken (x ∷ xs) = cond (x .broken) (Refused (x .number)) (firstBroken xs)
 
+-- what refuses an event, if anything does
 unfoldable pub refusalBy : View → Event → Check
 refusalBy v e = firstBroken (limitsBy v e)

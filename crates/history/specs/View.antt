@@ -16,10 +16,11 @@ pub record View : Type 0 where
   pub latestStore : ℕ  -- the latest store, whatever it covers
   pub lastStore : ℕ → ℕ  -- a byte's last store
   pub lastLog : ℕ → ℕ  -- a byte's last log
-  pub interval : ℕ → Interval
+  pub interval : ℕ → Interval  -- a byte's persist interval
   pub lineStore : ℕ → ℕ  -- the last store to a line
   pub lineBack : ℕ → ℕ  -- the last write-back of a line
 
+-- the answers of a history, in a window of this many lines
 abbrev pub ofHistory : ℕ → History → View
 ofHistory lines h =
     record {
