@@ -59,7 +59,7 @@ one-back (WrittenBack.twice {l = l} y z) (WrittenBack.useful x) = absurd (x l (y
 one-back {h = h} (WrittenBack.twice {l = m} z w) (WrittenBack.clean {l = l} x y) = absurd (subst (λ (i : ℕ). NeverStored h i) (lowest-one _ l m x z) y (w .store) (w .isStore))
 one-back (WrittenBack.twice {l = l} x y) (WrittenBack.twice {l = m} z w) = ap (λ (i : ℕ). WrittenTwice (lineStart i)) (lowest-one _ l m x z)
 
-one-end : {h now : History} {n : ℕ} {f g : Finding} → Ended h now n f → Ended h now n g → f ≡ g
+pub one-end : {h now : History} {n : ℕ} {f g : Finding} → Ended h now n f → Ended h now n g → f ≡ g
 one-end (Ended.inner a) (Ended.inner b) = refl
 one-end (Ended.inner a) (Ended.empty b c) = absurd (a b)
 one-end (Ended.inner a) (Ended.outermost b c d) = absurd (a b)
