@@ -1,5 +1,5 @@
 -- Pieces and allowed crash images, in plain words.
-use mathlib.Core.Path.{_≡_, refl}
+use mathlib.Core.Path.{_≡_}
 use mathlib.Core.Bool.{true, cond}
 use mathlib.Core.List.{_∷_}
 use Prim.Native.Nat.{ℕ, suc, _≤_}
