@@ -1,0 +1,6 @@
+-- The proofs of what is promised.
+pub mod Ends  -- laws of an interval that a fence ends
+pub mod Rules  -- what the rules of paper 000 do to each part of the status
+pub mod First  -- the first event that passes a test, when one more event comes
+pub mod Next  -- what one more event does to the interval of a byte
+pub mod Paper  -- the rules of paper 000 give the same intervals

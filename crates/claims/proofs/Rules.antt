@@ -1,0 +1,64 @@
+-- What the rules of document 000 do to each part of the status, by the three tests on an event.
+use mathlib.Core.Path.{_≡_, refl}
+use mathlib.Core.Bool.{Bool, true, false, cond, not, _&&_, _||_}
+use mathlib.Core.Logic.{⊎-elim}
+use Prim.Native.Nat.{ℕ, suc, _<_}
+use native.Mathlib.Omega.{arith}
+use lib.Dec.{eqb}
+use borrow.Author.Tests.{eqb-true, ne-eqb}
+use Rattle.event.specs.declared.Event.{Event}
+use Rattle.event.specs.declared.Interval.the-variants.{Open}
+use Rattle.event.specs.Numbers.{kindOf}
+use Rattle.event.specs.Window.{lineOf}
+use Rattle.event.proofs.Bools.{and-left, or-cases}
+use Rattle.history.specs.History.{stores, writesBack, fences, coversByte, touchesLine, storesByte, writesBackLine}
+use Rattle.history.specs.Found.{isOpen}
+use Rattle.claims.specs.Paper.{Status, write, clwb, sfence, updated}
+use Rattle.claims.proofs.Ends.{ended, endsIf}
+
+-- a store or a write-back is no fence
+pub no-fence : (b l : ℕ) (e : Event) → storesByte b e || writesBackLine l e ≡ true → fences e ≡ false
+no-fence b l e t =
+    ⊎-elim (λ k. lower 1 (omega arith) (and-left (stores e) (coversByte b e) k))
+    (λ k. lower 2 (omega arith) (and-left (writesBack e) (touchesLine l e) k))
+    (or-cases (storesByte b e) (writesBackLine l e) t)
+  where
+    lower : (n : ℕ) → n < 3 → eqb (kindOf e) n ≡ true → fences e ≡ false
+    lower n l k = ne-eqb (kindOf e) 3 (λ z. omega (arith, eqb-true (kindOf e) n k))
+
+-- the status after an event that stores the byte, or writes its line back, or is a fence, or is none of these
+abbrev ruled : Bool → Bool → Bool → Status → Status
+ruled store back fence s = cond store (write s) (cond back (clwb s) (cond fence (sfence s) s))
+
+module _ (b : ℕ) (e : Event) (s : Status) where
+  -- a fence increments the timestamp
+  pub timestamp-next : updated b e s .timestamp ≡ cond (fences e) (suc (s .timestamp)) (s .timestamp)
+  timestamp-next = go (storesByte b e) (writesBackLine (lineOf b) e) (fences e) (no-fence b (lineOf b) e)
+    where
+      go : (p w f : Bool) → (p || w ≡ true → f ≡ false) → ruled p w f s .timestamp ≡ cond f (suc (s .timestamp)) (s .timestamp)
+      go true w f k = rw (k refl)
+      go false true f k = rw (k refl)
+      go false false true k = refl
+      go false false false k = refl
+
+  -- a store opens the persist interval, and a fence ends it where the flush interval is open
+  pub persist-next :
+      updated b e s .persist ≡ cond (storesByte b e) (Open (s .timestamp)) (endsIf (fences e && isOpen (s .flush)) (suc (s .timestamp)) (s .persist))
+  persist-next = go (storesByte b e) (writesBackLine (lineOf b) e) (fences e) (no-fence b (lineOf b) e)
+    where
+      go : (p w f : Bool) → (p || w ≡ true → f ≡ false) →
+          ruled p w f s .persist ≡ cond p (Open (s .timestamp)) (endsIf (f && isOpen (s .flush)) (suc (s .timestamp)) (s .persist))
+      go true w f k = refl
+      go false true f k = rw (k refl)
+      go false false true k = refl
+      go false false false k = refl
+
+  -- a store clears the flush interval, a write-back opens it, and a fence ends it
+  pub flush-next : isOpen (updated b e s .flush) ≡ not (storesByte b e) && (writesBackLine (lineOf b) e || (not (fences e) && isOpen (s .flush)))
+  flush-next = go (storesByte b e) (writesBackLine (lineOf b) e) (fences e)
+    where
+      go : (p w f : Bool) → isOpen (ruled p w f s .flush) ≡ not p && (w || (not f && isOpen (s .flush)))
+      go true w f = refl
+      go false true f = refl
+      go false false true = ended (suc (s .timestamp)) (s .flush)
+      go false false false = refl

@@ -1,0 +1,21 @@
+-- Laws of tables and searches, and the link between a run and the events given to it.
+pub mod Table  -- a table after a change
+pub mod FromFront  -- a search, one turn of a loop at a time
+pub mod Searched  -- what a search found, by its answer
+pub mod Tests  -- the tests that the code makes are those of the judge
+pub mod Lines  -- the lines of a range within the largest window
+pub mod FenceLine  -- what a fence does to the bytes of one line
+pub mod Passed  -- what holds of an event that no limit refuses
+pub mod Steps  -- the outcome of an event given, from its parts
+pub mod Histories  -- a history after one more event
+pub mod ClosingFence  -- the closing fence of a store
+pub mod NextFence  -- the closing fence of a store after one more event
+pub mod Epochs  -- the epochs at which a byte opened and closed
+pub mod NextEpochs  -- these epochs after one more event
+pub mod Filled  -- a table filled at the bytes or lines of a range
+pub mod Sizes  -- the sizes of the tables
+pub mod Entries  -- each table entry after an event
+pub mod OneEvent  -- a run after one more accepted event
+pub mod FreshWindow  -- the run of a fresh window
+pub mod Answered  -- the answer to an event given
+pub mod Link  -- a run that grew from a fresh window tracks the accepted events

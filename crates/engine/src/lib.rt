@@ -1,0 +1,211 @@
+// The engine: a run of tables that answers each event as it is given.
+use event::Answer;
+use event::Check;
+use event::Interval;
+use event::Range;
+use event::Record;
+use event::Refusal;
+use event::window;
+ghost use mathlib.Core.Path.{_≡_};
+ghost use Rattle.engine.specs.View.{intervalFrom};
+ghost use Rattle.engine.specs.Call.{emptyRun, freshOf, giveOf, askOf, closeOf};
+
+mod findings; // the finding of each kind of event
+pub mod inplace; // an event given to tables that the caller lends
+mod limits; // the limits on an event
+mod searches; // searches over the tables
+mod updates; // the run after an event
+mod writes; // writes to the tables
+
+// The numbers of a run. Event numbers start at 1, and 0 stands for none.
+pub struct Counts {
+    pub lines: u16, // of the window
+    pub events: u16,
+    pub fences: u16,
+    pub findings: u16, // other than none
+    pub depth: u16, // transactions open
+    pub begin: u16, // the latest outermost begin
+    pub store: u16, // the latest store
+    pub fence: u16, // the latest fence
+}
+
+// A run: its numbers, four tables over the bytes of the largest window and two over its lines.
+pub struct Run {
+    pub counts: Counts,
+    pub stored: [u16; 4096], // a byte's last store
+    pub logged: [u16; 4096], // a byte's last log
+    pub opened: [u16; 4096], // the epoch at which its interval opened
+    pub closed: [u16; 4096], // the epoch at which it closed, 0 while it is open
+    pub written: [u16; 64], // the last store to a line
+    pub backed: [u16; 64], // the last write-back of a line
+}
+
+// A fresh window: what the check of its lines says, and the run.
+pub struct Window {
+    pub check: Check,
+    pub run: Run,
+}
+
+// An event given: its refusal or its finding, and the run to go on with.
+pub struct Given {
+    pub answer: Answer,
+    pub run: Run,
+}
+
+// The same where the caller lends the tables: the answer, and the numbers to go on with.
+pub struct Step {
+    pub answer: Answer,
+    pub counts: Counts,
+}
+
+// A byte asked.
+pub enum Asked {
+    Refused(Refusal),
+    Known(Interval),
+}
+
+// A run closed. `findings` counts those other than none.
+pub enum Closing {
+    Refused(Refusal),
+    Totals {
+        events: u16,
+        fences: u16,
+        findings: u16,
+    },
+}
+
+// What a search over bytes or lines found.
+pub enum Search {
+    Nothing,
+    At(u16),
+}
+
+// What a search over pairs of bytes found.
+pub enum PairSearch {
+    Nothing,
+    At { kept: u16, lost: u16 },
+}
+
+// A run in which nothing has happened.
+fn empty_run(lines: u16) -> Run
+    ensures { λ r. ⌜ r ≡ emptyRun lines ⌝ }
+{
+    Run {
+        counts: Counts {
+            lines,
+            events: 0,
+            fences: 0,
+            findings: 0,
+            depth: 0,
+            begin: 0,
+            store: 0,
+            fence: 0,
+        },
+        stored: [0; 4096],
+        logged: [0; 4096],
+        opened: [0; 4096],
+        closed: [0; 4096],
+        written: [0; 64],
+        backed: [0; 64],
+    }
+}
+
+// A fresh window of 1 to 64 lines; any other line count is refused by 4, with a run of one line.
+pub fn fresh(lines: u16) -> Window
+    ensures { λ r. ⌜ r ≡ freshOf lines ⌝ }
+{
+    match window::check_lines(lines) {
+        Check::Passed => Window {
+            check: Check::Passed,
+            run: empty_run(lines),
+        },
+        Check::Refused(x) => Window {
+            check: Check::Refused(x),
+            run: empty_run(1),
+        },
+    }
+}
+
+// An event given to a run: refused by the first of 8 to 12 that applies, and the run as it was, or its finding and the next run.
+pub fn give(run: Run, r: Record) -> Given
+    ensures { λ g. ⌜ g ≡ giveOf run r ⌝ }
+{
+    let counts = run.counts;
+    let mut stored = run.stored;
+    let mut logged = run.logged;
+    let mut opened = run.opened;
+    let mut closed = run.closed;
+    let mut written = run.written;
+    let mut backed = run.backed;
+    let step = inplace::step(
+        counts,
+        &mut stored,
+        &mut logged,
+        &mut opened,
+        &mut closed,
+        &mut written,
+        &mut backed,
+        r,
+    );
+    let answer = step.answer;
+    let next = step.counts;
+    Given {
+        answer,
+        run: Run {
+            counts: next,
+            stored,
+            logged,
+            opened,
+            closed,
+            written,
+            backed,
+        },
+    }
+}
+
+// A byte's interval, from its last store and the epochs at which the interval opened and closed.
+fn interval_from(store: u16, opened: u16, closed: u16) -> Interval
+    ensures { λ r. ⌜ r ≡ intervalFrom store opened closed ⌝ }
+{
+    if store == 0 {
+        return Interval::None;
+    }
+    if closed == 0 {
+        return Interval::Open(opened);
+    }
+    Interval::Closed(opened, closed)
+}
+
+// The persist interval of a byte, or 9 where the byte is past the window.
+pub fn ask(run: Run, byte: u16) -> Asked
+    ensures { λ a. ⌜ a ≡ askOf run byte ⌝ }
+{
+    let range = Range {
+        address: byte,
+        length: 1,
+    };
+    if window::is_past(findings::lines_of(run.counts), range) {
+        return Asked::Refused(Refusal::PastWindow);
+    }
+    let b = byte as usize;
+    let store = run.stored[b];
+    let opened = run.opened[b];
+    let closed = run.closed[b];
+    Asked::Known(interval_from(store, opened, closed))
+}
+
+// The totals of a run, or 13 where a transaction is open. The run may go on.
+pub fn close(run: Run) -> Closing
+    ensures { λ c. ⌜ c ≡ closeOf run ⌝ }
+{
+    let counts = run.counts;
+    if counts.depth == 0 {
+        Closing::Totals {
+            events: counts.events,
+            fences: counts.fences,
+            findings: counts.findings,
+        }
+    } else {
+        Closing::Refused(Refusal::TransactionOpen)
+    }
+}
