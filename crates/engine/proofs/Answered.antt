@@ -13,9 +13,9 @@ use Rattle.history.specs.Refused.{limitsBy, refusalBy}
 use Rattle.history.specs.Found.{findingBy}
 use Rattle.history.specs.Given.{Accepted, answerOf}
 use Rattle.history.proofs.Given.{Checked, checked, answer-refused, answer-found}
-use Rattle.engine.specs.declared.Run.{Run}
-use Rattle.engine.specs.View.{ofRun}
-use Rattle.engine.specs.Call.{nextOf, givenFor, giveOf}
+use Rattle.tables.specs.declared.Run.{Run}
+use Rattle.tables.specs.View.{ofRun}
+use Rattle.tables.specs.Give.{nextOf, givenFor, giveOf}
 
 -- the event is refused, and the run stays as it was; or it is accepted, and its finding leads to the next run
 pub data Answered (lines : ℕ) (h : History) (run : Run) (r : Record) : Type 0 where

@@ -8,11 +8,11 @@ use Rattle.event.specs.declared.Event.{Event}
 use Rattle.event.specs.declared.Event.the-variants.{Store, WriteBack, Fence, Begin, Log, End, Persisted, Ordered}
 use Rattle.event.specs.Window.{mostLines, windowBytes, isPast, rangesOf, anyRange}
 use Rattle.history.specs.History.{stores, writesBack, fences, logs, storesByte, storesLine, writesBackLine, logsByte}
-use Rattle.engine.specs.declared.Run.{Run}
-use Rattle.engine.specs.Table.{entry}
-use Rattle.engine.specs.View.{linesOf}
-use Rattle.engine.specs.Next.{numberOf, oneMore, closes, tablesAfter}
-use Rattle.engine.proofs.Table.{changed-inside, changed-above}
+use Rattle.tables.specs.declared.Run.{Run}
+use Rattle.tables.specs.Table.{entry}
+use Rattle.tables.specs.View.{linesOf}
+use Rattle.tables.specs.Next.{numberOf, oneMore, closes, tablesAfter}
+use Rattle.tables.proofs.Table.{changed-inside, changed-above}
 use Rattle.engine.proofs.Sizes.{Sized}
 use Rattle.engine.proofs.Filled.{Fits, fits, filled-bytes, filled-lines}
 

@@ -17,7 +17,7 @@ use Rattle.history.specs.Found.{isOpen}
 use Rattle.history.proofs.Count.{count-less}
 use Rattle.history.proofs.History.{is-number}
 use Rattle.history.proofs.Interval.{if-some, closing-fence, interval-none, interval-open, interval-closed}
-use Rattle.engine.specs.View.{intervalFrom}
+use Rattle.tables.specs.View.{intervalFrom}
 use Rattle.engine.specs.Tracks.{closedAt}
 use Rattle.engine.proofs.ClosingFence.{lastBack, back-unfenced}
 

@@ -12,8 +12,8 @@ use Rattle.event.specs.declared.Range.{Range}
 use Rattle.event.specs.Window.{mostLines, windowBytes, lineOf, rangeEnd, covers, isEmpty, touches, lineCount, isPast}
 use Rattle.event.proofs.Bools.{and-left, and-right, both}
 use Rattle.event.proofs.Meaning.{touched, touched-below, below-touched}
-use Rattle.engine.specs.Table.{entry, filledBytes, filledLines}
-use Rattle.engine.proofs.Table.{changed-entry}
+use Rattle.tables.specs.Table.{entry, filledBytes, filledLines}
+use Rattle.tables.proofs.Table.{changed-entry}
 
 -- two tests that imply one another
 same-test : (a b : Bool) → (a ≡ true → b ≡ true) → (b ≡ true → a ≡ true) → a ≡ b

@@ -8,7 +8,7 @@ use Rattle.history.specs.Count.{count, last}
 use Rattle.history.specs.Interval.{epochAt, lastStore}
 use Rattle.history.specs.Transaction.{depth, outermost}
 use Rattle.history.proofs.Meaning.Accepted.{Taken}
-use Rattle.engine.specs.Table.{entry}
+use Rattle.tables.specs.Table.{entry}
 use Rattle.engine.specs.Call.{emptyRun}
 use Rattle.engine.specs.Tracks.{Tracks}
 use Rattle.engine.proofs.Sizes.{Sized}

@@ -1,12 +1,4 @@
--- Laws of tables and searches, and the link between a run and the events given to it.
-pub mod Table  -- a table after a change
-pub mod FromFront  -- a search, one turn of a loop at a time
-pub mod Searched  -- what a search found, by its answer
-pub mod Tests  -- the tests that the code makes are those of the judge
-pub mod Lines  -- the lines of a range within the largest window
-pub mod FenceLine  -- what a fence does to the bytes of one line
-pub mod Passed  -- what holds of an event that no limit refuses
-pub mod Steps  -- the outcome of an event given, from its parts
+-- The link between a run and the events given to it.
 pub mod Histories  -- a history after one more event
 pub mod ClosingFence  -- the closing fence of a store
 pub mod NextFence  -- the closing fence of a store after one more event

@@ -20,10 +20,10 @@ use Rattle.history.specs.Given.{Accepted}
 use Rattle.history.proofs.Interval.{last-store-stores}
 use Rattle.history.proofs.Meaning.Events.{epoch-next}
 use Rattle.history.proofs.Meaning.Accepted.{Taken}
-use Rattle.engine.specs.declared.Run.{Run}
-use Rattle.engine.specs.View.{linesOf, ofRun}
-use Rattle.engine.specs.Next.{oneMore, isNone, closes, countsAfter, tablesAfter}
-use Rattle.engine.specs.Call.{nextOf}
+use Rattle.tables.specs.declared.Run.{Run}
+use Rattle.tables.specs.View.{linesOf, ofRun}
+use Rattle.tables.specs.Next.{oneMore, isNone, closes, countsAfter, tablesAfter}
+use Rattle.tables.specs.Give.{nextOf}
 use Rattle.engine.specs.Given.{counts}
 use Rattle.engine.specs.Tracks.{Tracks}
 use Rattle.engine.proofs.Histories.{last-next, count-within, accepted-within, taken-inside}

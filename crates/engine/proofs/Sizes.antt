@@ -3,9 +3,9 @@ use mathlib.Core.Path.{_≡_}
 use lib.ListN.{length}
 use Rattle.event.specs.declared.Event.{Event}
 use Rattle.event.specs.declared.Event.the-variants.{Store, WriteBack, Fence, Begin, Log, End, Persisted, Ordered}
-use Rattle.engine.specs.declared.Run.{Run}
-use Rattle.engine.specs.Next.{tablesAfter}
-use Rattle.engine.proofs.Table.{changed-length}
+use Rattle.tables.specs.declared.Run.{Run}
+use Rattle.tables.specs.Next.{tablesAfter}
+use Rattle.tables.proofs.Table.{changed-length}
 
 -- the tables have the sizes of the largest window
 pub record Sized (run : Run) : Type 0 where

@@ -5,9 +5,9 @@ use Prim.Native.Nat.{ℕ, _+_}
 use Rattle.event.specs.declared.Record.{Record}
 use Rattle.event.specs.declared.Answer.{Answer}
 use Rattle.event.specs.declared.Answer.the-variants.{Refused, Found}
-use Rattle.engine.specs.declared.Run.{Run}
-use Rattle.engine.specs.Next.{isNone}
-use Rattle.engine.specs.Call.{giveOf}
+use Rattle.tables.specs.declared.Run.{Run}
+use Rattle.tables.specs.Next.{isNone}
+use Rattle.tables.specs.Give.{giveOf}
 
 -- the run after them
 unfoldable pub runAfter : Run → List Record → Run

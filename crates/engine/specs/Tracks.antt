@@ -7,8 +7,8 @@ use Rattle.history.specs.Count.{last, ifSome}
 use Rattle.history.specs.History.{History, is, stores, fences, storesLine, writesBackLine, logsByte}
 use Rattle.history.specs.Interval.{epochAt, lastStore, fenceAfter}
 use Rattle.history.specs.Transaction.{depth, outermost}
-use Rattle.engine.specs.declared.Run.{Run}
-use Rattle.engine.specs.Table.{entry}
+use Rattle.tables.specs.declared.Run.{Run}
+use Rattle.tables.specs.Table.{entry}
 
 -- the epoch at which the interval of a byte closed, 0 where none did
 abbrev pub closedAt : History → ℕ → ℕ

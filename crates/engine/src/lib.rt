@@ -1,61 +1,22 @@
 // The engine: a run of tables that answers each event as it is given.
-use event::Answer;
 use event::Check;
 use event::Interval;
 use event::Range;
 use event::Record;
 use event::Refusal;
 use event::window;
+use tables::Counts;
+use tables::Given;
+use tables::Run;
 ghost use mathlib.Core.Path.{_≡_};
-ghost use Rattle.engine.specs.View.{intervalFrom};
-ghost use Rattle.engine.specs.Call.{emptyRun, freshOf, giveOf, askOf, closeOf};
-
-mod findings; // the finding of each kind of event
-pub mod inplace; // an event given to tables that the caller lends
-mod limits; // the limits on an event
-mod searches; // searches over the tables
-mod updates; // the run after an event
-mod writes; // writes to the tables
-
-// The numbers of a run. Event numbers start at 1, and 0 stands for none.
-pub struct Counts {
-    pub lines: u16, // of the window
-    pub events: u16,
-    pub fences: u16,
-    pub findings: u16, // other than none
-    pub depth: u16, // transactions open
-    pub begin: u16, // the latest outermost begin
-    pub store: u16, // the latest store
-    pub fence: u16, // the latest fence
-}
-
-// A run: its numbers, four tables over the bytes of the largest window and two over its lines.
-pub struct Run {
-    pub counts: Counts,
-    pub stored: [u16; 4096], // a byte's last store
-    pub logged: [u16; 4096], // a byte's last log
-    pub opened: [u16; 4096], // the epoch at which its interval opened
-    pub closed: [u16; 4096], // the epoch at which it closed, 0 while it is open
-    pub written: [u16; 64], // the last store to a line
-    pub backed: [u16; 64], // the last write-back of a line
-}
+ghost use Rattle.tables.specs.View.{intervalFrom};
+ghost use Rattle.tables.specs.Give.{giveOf};
+ghost use Rattle.engine.specs.Call.{emptyRun, freshOf, askOf, closeOf};
 
 // A fresh window: what the check of its lines says, and the run.
 pub struct Window {
     pub check: Check,
     pub run: Run,
-}
-
-// An event given: its refusal or its finding, and the run to go on with.
-pub struct Given {
-    pub answer: Answer,
-    pub run: Run,
-}
-
-// The same where the caller lends the tables: the answer, and the numbers to go on with.
-pub struct Step {
-    pub answer: Answer,
-    pub counts: Counts,
 }
 
 // A byte asked.
@@ -72,18 +33,6 @@ pub enum Closing {
         fences: u16,
         findings: u16,
     },
-}
-
-// What a search over bytes or lines found.
-pub enum Search {
-    Nothing,
-    At(u16),
-}
-
-// What a search over pairs of bytes found.
-pub enum PairSearch {
-    Nothing,
-    At { kept: u16, lost: u16 },
 }
 
 // A run in which nothing has happened.
@@ -137,7 +86,7 @@ pub fn give(run: Run, r: Record) -> Given
     let mut closed = run.closed;
     let mut written = run.written;
     let mut backed = run.backed;
-    let step = inplace::step(
+    let step = tables::step(
         counts,
         &mut stored,
         &mut logged,
@@ -184,7 +133,7 @@ pub fn ask(run: Run, byte: u16) -> Asked
         address: byte,
         length: 1,
     };
-    if window::is_past(findings::lines_of(run.counts), range) {
+    if window::is_past(tables::lines_of(run.counts), range) {
         return Asked::Refused(Refusal::PastWindow);
     }
     let b = byte as usize;

@@ -1,0 +1,72 @@
+-- What a search found, by what it answered.
+use mathlib.Core.Path.{_≡_, refl, sym, _∙_}
+use mathlib.Core.Bool.{Bool, true, false, cond}
+use mathlib.Core.Option.{Option, none, some}
+use Prim.Native.Nat.{ℕ, zero, suc, _+_, _<_}
+use native.Mathlib.Omega.{arith}
+use Rattle.event.specs.declared.Range.{Range}
+use Rattle.event.specs.declared.Finding.{Finding}
+use Rattle.event.specs.Window.{rangeEnd}
+use Rattle.history.specs.Found.{lowest, lowestIn, lowestPair, orPair, foundOr, Pair}
+use Rattle.tables.specs.declared.Search.{Search}
+use Rattle.tables.specs.declared.Search.the-variants.{Nothing, At}
+use Rattle.tables.specs.declared.PairSearch.{PairSearch}
+use Rattle.tables.specs.declared.PairSearch.the-variants.{Nothing as NoPair, At as AtPair}
+use Rattle.tables.specs.Tests.{searched, pairSearched}
+
+-- nothing
+pub found-none : (found : Option ℕ) {s : Search} → s ≡ Nothing → s ≡ searched found → found ≡ none
+unfolding searched
+found-none none e f = refl
+found-none (some x) e f = let z : _≡_ {A = ℕ} 0 1 = cc in absurd (omega arith)
+
+-- a byte or a line
+pub found-some : (found : Option ℕ) {s : Search} {x : ℕ} → s ≡ At x → s ≡ searched found → found ≡ some x
+unfolding searched
+found-some none e f = let z : _≡_ {A = ℕ} 0 1 = cc in absurd (omega arith)
+found-some (some y) e f = cc
+
+-- no pair
+pub found-no-pair : (found : Option Pair) {s : PairSearch} → s ≡ NoPair → s ≡ pairSearched found → found ≡ none
+unfolding pairSearched
+found-no-pair none e f = refl
+found-no-pair (some p) e f = let z : _≡_ {A = ℕ} 0 1 = cc in absurd (omega arith)
+
+-- a pair
+pub found-pair : (found : Option Pair) {s : PairSearch} {kept lost : ℕ} →
+    s ≡ AtPair kept lost → s ≡ pairSearched found → found ≡ some (record { kept = kept; lost = lost })
+unfolding pairSearched
+found-pair none e f = let z : _≡_ {A = ℕ} 0 1 = cc in absurd (omega arith)
+found-pair (some p) {s} {kept} {lost} e f =
+    let k : kept ≡ p .kept = cc in
+    let l : lost ≡ p .lost = cc in
+    rw (k, l)
+
+-- what is found is within what was searched
+pub lowest-below : (p : ℕ → Bool) (n x : ℕ) {y : ℕ} → lowest p x n ≡ some y → y < x + n
+unfolding lowest
+lowest-below p zero x e = let z : _≡_ {A = ℕ} 0 1 = cc in absurd (omega arith)
+lowest-below p (suc n) x {y} e = go (p x) e (lowest-below p n (suc x))
+  where
+    go : (t : Bool) → cond t (some x) (lowest p (suc x) n) ≡ some y → (lowest p (suc x) n ≡ some y → y < suc x + n) → y < x + suc n
+    go true k rest = let same : x ≡ y = cc in omega arith
+    go false k rest = omega (arith, rest k)
+
+pub pair-below : (p : ℕ → ℕ → Bool) (a : Range) (n x : ℕ) {f : Pair} → lowestPair p a x n ≡ some f → (f .kept < x + n) × (f .lost < rangeEnd a)
+unfolding lowestPair
+pair-below p a zero x e = let z : _≡_ {A = ℕ} 0 1 = cc in absurd (omega arith)
+pair-below p a (suc n) x {f} e = go (lowestIn (p x) a) refl e (pair-below p a n (suc x))
+  where
+    go : (o : Option ℕ) → lowestIn (p x) a ≡ o → orPair x o (lowestPair p a (suc x) n) ≡ some f →
+        (lowestPair p a (suc x) n ≡ some f → (f .kept < suc x + n) × (f .lost < rangeEnd a)) → (f .kept < x + suc n) × (f .lost < rangeEnd a)
+    go none h k rest = (omega (arith, rest k .0), rest k .1)
+    go (some y) h k rest =
+        let kept : x ≡ f .kept = cc in
+        let lost : y ≡ f .lost = cc in
+        (omega arith, omega (arith, lowest-below (p x) (a .length) (a .address) h))
+
+-- a search for what is nowhere
+pub lowest-never : (n x : ℕ) → lowest (λ b. false) x n ≡ none
+unfolding lowest
+lowest-never zero x = refl
+lowest-never (suc n) x = lowest-never n (suc x)

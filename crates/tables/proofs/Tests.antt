@@ -1,0 +1,158 @@
+-- The tests that the code makes on the tables are those that a judge makes of the run.
+use mathlib.Core.Path.{_≡_, refl, sym, fun-ext}
+use mathlib.Core.Bool.{Bool, true, false, cond, not, _&&_, _||_}
+use mathlib.Core.Logic.{_≢_}
+use mathlib.Core.List.{List, []}
+use mathlib.Core.Option.{Option, none, some}
+use Prim.Native.Nat.{ℕ, zero, suc, _+_, _<_}
+use native.Mathlib.Omega.{arith}
+use lib.Dec.{eqb, ltb, leb}
+use borrow.Author.Tests.{eq-eqb, ne-eqb, leb-true, leb-false, lt-ltb, le-ltb, ltb-true}
+use Rattle.event.specs.declared.Range.{Range}
+use Rattle.event.specs.declared.Event.the-variants.{Store, WriteBack, End, Persisted, Ordered}
+use Rattle.event.specs.declared.Finding.the-variants.{None, Unlogged}
+use Rattle.event.specs.Window.{lineOf, lineCount}
+use Rattle.history.specs.Found.{Pair, lowest, lowestIn, lowestPair, foundOr, unlogged, clean, writtenTwice, warnedLine, storedSince, isOpen, atRisk, openedAt, closedBy, breaks, inOrder, findingBy}
+use Rattle.tables.specs.declared.Counts.{Counts}
+use Rattle.tables.specs.declared.Run.{Run}
+use Rattle.tables.specs.Table.{entry, changed}
+use Rattle.tables.specs.View.{runOf, noCounts, intervalFrom, ofRun}
+use Rattle.tables.specs.Tests.{markedSince, openSince, wastedLine, brokenPair, isOpenSince, isBroken, durableFrom, endedFrom, fenced}
+use Rattle.tables.specs.Next.{closes}
+use Rattle.tables.proofs.Table.{changed-same}
+use Rattle.tables.proofs.Searched.{lowest-never}
+
+-- an interval is open after a store that no fence has closed
+open-test : (s o k : ℕ) → isOpen (intervalFrom s o k) ≡ isOpenSince 0 s k
+open-test zero o k = refl
+open-test (suc s) o zero = rw (lt-ltb 0 (suc s) (omega arith))
+open-test (suc s) o (suc k) = rw (lt-ltb 0 (suc s) (omega arith), ne-eqb (suc k) 0 (λ e. absurd (omega arith)))
+
+-- it was not closed by an epoch: it is open, or closed later
+open-or-later : (s o k e : ℕ) → not (closedBy (intervalFrom (suc s) o k) e) ≡ (eqb k 0 || ltb e k)
+open-or-later s o zero e = refl
+open-or-later s o (suc k) e = rw (ne-eqb (suc k) 0 (λ z. absurd (omega arith))) (go (leb (suc k) e) refl)
+  where
+    go : (t : Bool) → leb (suc k) e ≡ t → not t ≡ ltb e (suc k)
+    go true h = sym (le-ltb e (suc k) (leb-true (suc k) e h))
+    go false h = sym (lt-ltb e (suc k) (leb-false (suc k) e h))
+
+-- the epoch at which an interval opened
+opened-at : (s o k : ℕ) → openedAt (intervalFrom (suc s) o k) ≡ o
+opened-at s o zero = refl
+opened-at s o (suc k) = refl
+
+-- the test of a pair, by the entries of the kept and of the lost byte
+broken-test : (ks ok kk ls lo lk : ℕ) (one : Bool) →
+    not (eqb ks 0) && not (eqb ls 0) && cond one (ltb ks ls) (not (closedBy (intervalFrom ls lo lk) (openedAt (intervalFrom ks ok kk)))) ≡
+    isBroken ks ls one ok lk
+broken-test zero ok kk ls lo lk one = refl
+broken-test (suc ks) ok kk zero lo lk one = rw (ne-eqb (suc ks) 0 (λ z. absurd (omega arith)))
+broken-test (suc ks) ok kk (suc ls) lo lk one = rw (opened-at ks ok kk, open-or-later ls lo lk ok)
+
+module _ (counts : Counts) (logged : List ℕ) (a : Range) where
+  -- outside a transaction no store is unlogged
+  pub store-outside : counts .depth ≡ 0 → None ≡ findingBy (ofRun (runOf counts [] logged [] [] [] [])) (Store a)
+  unfolding findingBy
+  store-outside z =
+      let never : unlogged (ofRun (runOf counts [] logged [] [] [] [])) ≡ (λ b. false) = fun-ext (λ b. rw (eq-eqb (counts .depth) 0 z)) in
+      rw (never, lowest-never)
+
+  -- inside one it goes by the logs
+  pub store-inside : counts .depth ≢ 0 →
+      foundOr (lowestIn (markedSince false (counts .begin) logged) a) None Unlogged ≡ findingBy (ofRun (runOf counts [] logged [] [] [] [])) (Store a)
+  unfolding findingBy
+  store-inside z =
+      let same : unlogged (ofRun (runOf counts [] logged [] [] [] [])) ≡ markedSince false (counts .begin) logged = fun-ext (λ b. rw (ne-eqb (counts .depth) 0 z)) in
+      rw same
+
+module _ (run : Run) where
+  -- a write-back goes by the last store and the last write-back of each line
+  pub back-found : (a : Range) →
+      findingBy (ofRun run) (WriteBack a) ≡
+      foundOr (lowest (wastedLine (run .written) (run .backed)) (lineOf (a .address)) (lineCount a)) None (warnedLine (ofRun run))
+  unfolding findingBy
+  back-found a =
+      let same : (λ l. clean (ofRun run) l || writtenTwice (ofRun run) l) ≡ wastedLine (run .written) (run .backed) =
+      fun-ext (λ l. wasted (eqb (entry (run .written) l) 0) (ltb (entry (run .written) l) (entry (run .backed) l))) in
+      rw same
+    where
+      wasted : (w t : Bool) → w || (not w && t) ≡ (w || t)
+      wasted true t = refl
+      wasted false t = refl
+
+  -- a byte is at risk after a store that no fence has closed
+  at-risk : (b : ℕ) → atRisk (ofRun run) b ≡ openSince 0 (run .stored) (run .closed) b
+  at-risk b = open-test (entry (run .stored) b) (entry (run .opened) b) (entry (run .closed) b)
+
+  -- a persisted goes by its bytes' last stores and closing epochs
+  pub persisted-found : (a : Range) →
+      findingBy (ofRun run) (Persisted a) ≡ durableFrom (run .counts) (run .stored) (run .closed) 0 (a .address) (a .length)
+  unfolding findingBy
+  persisted-found a =
+      let same : atRisk (ofRun run) ≡ openSince 0 (run .stored) (run .closed) = fun-ext at-risk in
+      rw same
+
+  -- an end likewise, over the bytes stored to since the begin
+  pub end-found : findingBy (ofRun run) End ≡ endedFrom (run .counts) (run .stored) (run .closed)
+  unfolding findingBy
+  end-found =
+      let same : (λ b. storedSince (ofRun run) b && atRisk (ofRun run) b) ≡ openSince (run .counts .begin) (run .stored) (run .closed) =
+      fun-ext (λ b. rw (at-risk b) (later (run .counts .begin) (entry (run .stored) b) (eqb (entry (run .closed) b) 0))) in
+      rw same
+    where
+      later : (n s : ℕ) (t : Bool) → ltb n s && (ltb 0 s && t) ≡ (ltb n s && t)
+      later n s t = go (ltb n s) refl
+        where
+          go : (u : Bool) → ltb n s ≡ u → u && (ltb 0 s && t) ≡ (u && t)
+          go true e = rw (lt-ltb 0 s (let h : n < s = ltb-true n s e in omega arith))
+          go false e = refl
+
+  -- an ordered goes by the last stores of both bytes, the opening epoch of the kept one and the closing epoch of the lost one
+  pub ordered-found : (a b : Range) →
+      findingBy (ofRun run) (Ordered a b) ≡
+      inOrder (ofRun run) (lowestPair (brokenPair (run .stored) (run .opened) (run .closed)) a (b .address) (b .length))
+  unfolding findingBy
+  ordered-found a b =
+      let same : breaks (ofRun run) ≡ brokenPair (run .stored) (run .opened) (run .closed) =
+      fun-ext (λ kept. fun-ext (λ lost.
+      broken-test (entry (run .stored) kept) (entry (run .opened) kept) (entry (run .closed) kept)
+      (entry (run .stored) lost) (entry (run .opened) lost) (entry (run .closed) lost) (eqb (lineOf kept) (lineOf lost)))) in
+      rw same
+
+  -- a fence closes the same bytes
+  pub fence-closed : (epoch n : ℕ) →
+      changed (fenced (run .counts .fence) epoch (run .stored) (run .backed)) 0 n (run .closed) ≡
+      changed (λ b old. cond (closes run b) epoch old) 0 n (run .closed)
+  fence-closed epoch n =
+      changed-same (fenced (run .counts .fence) epoch (run .stored) (run .backed)) (λ b old. cond (closes run b) epoch old) 0 n (run .closed)
+      (λ b h k.
+      rw (at-risk b)
+      (closes-test (entry (run .stored) b) (ltb (entry (run .stored) b) (entry (run .backed) (lineOf b)))
+      (ltb (run .counts .fence) (entry (run .backed) (lineOf b))) (eqb (entry (run .closed) b) 0) epoch (entry (run .closed) b)))
+    where
+      closes-test : (s : ℕ) (since fresh still : Bool) (epoch old : ℕ) →
+          cond fresh (cond (not (eqb s 0) && still && since) epoch old) old ≡ cond (ltb 0 s && still && since && fresh) epoch old
+      closes-test zero since fresh still epoch old = go fresh
+        where
+          go : (t : Bool) → cond t old old ≡ old
+          go true = refl
+          go false = refl
+      closes-test (suc s) since fresh still epoch old =
+          rw (ne-eqb (suc s) 0 (λ z. absurd (omega arith)), lt-ltb 0 (suc s) (omega arith)) (go (still && since) fresh)
+        where
+          go : (closing fresh : Bool) → cond fresh (cond closing epoch old) old ≡ cond (closing && fresh) epoch old
+          go true true = refl
+          go true false = refl
+          go false true = refl
+          go false false = refl
+
+  -- an ordered asks for no other tables
+  pub ordered-tables : (a b : Range) →
+      findingBy (ofRun run) (Ordered a b) ≡ findingBy (ofRun (runOf (noCounts 0) (run .stored) [] (run .opened) (run .closed) [] [])) (Ordered a b)
+  unfolding findingBy
+  ordered-tables a b = go (lowestPair (breaks (ofRun run)) a (b .address) (b .length))
+    where
+      go : (found : Option Pair) → inOrder (ofRun run) found ≡ inOrder (ofRun (runOf (noCounts 0) (run .stored) [] (run .opened) (run .closed) [] [])) found
+      go none = refl
+      go (some p) = refl

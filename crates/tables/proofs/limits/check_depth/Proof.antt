@@ -1,0 +1,14 @@
+-- `tables::limits::check_depth` meets its contract, by its test.
+-- Assumes nothing.
+use borrow.Author.Tests.{le-leb, lt-leb}
+use Rattle.tables.proofs.limits.check_depth.Statement.{statement}
+use Rattle.tables.proofs.limits.check_depth.Tie as tie
+
+returns : tie.Need-returns
+returns c = simp (le-leb _ _ (c .if1 .taken))
+
+returns-2 : tie.Need-returns-2
+returns-2 c = simp (lt-leb _ _ (c .if1 .left))
+
+pub check-depth-spec : {M : Type 1} → statement M
+check-depth-spec = tie.close (tie.spec returns returns-2)

@@ -1,0 +1,59 @@
+-- `tables::step` meets its contract: the check, the finding and the changes make up the outcome.
+-- Assumes nothing.
+use mathlib.Core.Path.{_≡_}
+use borrow.Author.Needs.{needs}
+use Rattle.event.specs.declared.Check.the-variants.{Passed}
+use Rattle.event.proofs.Laws.{equal-by}
+use Rattle.history.specs.Refused.{refusalBy}
+use Rattle.tables.specs.declared.Run.{Run}
+use Rattle.tables.specs.View.{runOf, numbersOf, ofRun}
+use Rattle.tables.proofs.Steps.{step-refused, step-taken}
+use Rattle.tables.proofs.step.Statement.{statement}
+use Rattle.tables.proofs.step.Tie as tie
+
+-- the run of the tables as they were lent
+abbrev entry-run : tie.Start → Run
+entry-run s =
+    let a = s .args in
+    runOf (a .counts) (a .stored .now) (a .logged .now) (a .opened .now) (a .closed .now) (a .written .now) (a .backed .now)
+
+-- no limit refuses the event
+passes : (c : tie.After-enum-told) → let a = c .before .before .before .args in refusalBy (ofRun (numbersOf (a .counts))) (a .r .event) ≡ Passed
+passes c = equal-by (c .before .before .check-event .ensures) (c .enum-told .given .1)
+
+check-event-requires : tie.Need-check-event-requires
+check-event-requires c κs = search needs
+
+enum-known-x : tie.Need-enum-known-x
+enum-known-x c = search needs
+
+enum-told : tie.Need-enum-told
+enum-told c = search needs
+
+finding-of-requires : tie.Need-finding-of-requires
+finding-of-requires c κs = passes (c .before .before .before .before .before .before)
+
+update-requires : tie.Need-update-requires
+update-requires c κs = passes (c .before .before .before .before .before .before .before .before .before .before .before .before .before)
+
+counts-after-requires : tie.Need-counts-after-requires
+counts-after-requires c κs = passes (c .before .before .before .before .before .before .before .before .before .before .before .before .before .before)
+
+returns : tie.Need-returns
+returns c = let w = c .before .before .before in step-refused (entry-run (w .before)) (w .before .args .r) (equal-by (w .check-event .ensures) (c .before .x .given .1))
+
+returns-2 : tie.Need-returns-2
+returns-2 c = let u = c .before in let f = u .before .before .before .before .before .before .before in let t = f .before .before .before .before .before .before .before in let s = t .before .before .before in step-taken (entry-run s) (s .args .r) (passes t) (f .finding-of .ensures) (u .update .ensures) (c .counts-after .ensures)
+
+pub step-spec : {M : Type 1} → statement M
+step-spec =
+    tie.close
+    (tie.spec
+    check-event-requires
+    enum-known-x
+    enum-told
+    finding-of-requires
+    update-requires
+    counts-after-requires
+    returns
+    returns-2)

@@ -1,0 +1,47 @@
+-- The questions of a judge (`View`), answered by a run.
+use mathlib.Core.List.{List, []}
+use Prim.Native.Nat.{ℕ, min}
+use Rattle.event.specs.declared.Interval.{Interval}
+use Rattle.event.specs.declared.Interval.the-variants.{None, Open, Closed}
+use Rattle.event.specs.Window.{mostLines}
+use Rattle.history.specs.Count.{ifSome}
+use Rattle.history.specs.View.{View}
+use Rattle.tables.specs.declared.Counts.{Counts}
+use Rattle.tables.specs.declared.Run.{Run}
+use Rattle.tables.specs.Table.{entry}
+
+-- the run with these numbers and these tables
+abbrev pub runOf : Counts → (stored logged opened closed written backed : List ℕ) → Run
+runOf counts stored logged opened closed written backed =
+    record { counts = counts; stored = stored; logged = logged; opened = opened; closed = closed; written = written; backed = backed }
+
+-- no event yet
+abbrev pub noCounts : ℕ → Counts
+noCounts lines = record { lines = lines; events = 0; fences = 0; findings = 0; depth = 0; begin = 0; store = 0; fence = 0 }
+
+-- the numbers alone: what asks for no table is the same for every run that has them
+abbrev pub numbersOf : Counts → Run
+numbersOf counts = runOf counts [] [] [] [] [] []
+
+-- the window's lines, at most those of the largest window: so no run leads past the end of a table
+abbrev pub linesOf : Counts → ℕ
+linesOf counts = min (counts .lines) mostLines
+
+-- a byte's interval from its last store, its opening and its closing epoch: none without a store, open without a closing epoch
+abbrev pub intervalFrom : ℕ → ℕ → ℕ → Interval
+intervalFrom store opened closed = ifSome store None (λ s. ifSome closed (Open opened) (Closed opened))
+
+abbrev pub ofRun : Run → View
+ofRun run =
+    record {
+      lines = linesOf (run .counts);
+      events = run .counts .events;
+      depth = run .counts .depth;
+      begin = run .counts .begin;
+      latestStore = run .counts .store;
+      lastStore = entry (run .stored);
+      lastLog = entry (run .logged);
+      interval = λ b. intervalFrom (entry (run .stored) b) (entry (run .opened) b) (entry (run .closed) b);
+      lineStore = entry (run .written);
+      lineBack = entry (run .backed);
+    }

@@ -1,0 +1,179 @@
+// The finding of each kind of event, from the tables before it.
+use crate::Counts;
+use crate::PairSearch;
+use crate::Search;
+use crate::searches;
+use event::Event;
+use event::Finding;
+use event::Range;
+use event::window;
+ghost use mathlib.Core.Path.{_≡_};
+ghost use mathlib.Core.List.{[]};
+ghost use Prim.Native.Nat.{_+_, _<_, _≤_};
+ghost use Rattle.event.specs.declared.Check.the-variants.{Passed};
+ghost use Rattle.event.specs.Window.{rangeEnd};
+ghost use Rattle.history.specs.Refused.{refusalBy};
+ghost use Rattle.history.specs.Found.{findingBy};
+ghost use Rattle.tables.specs.View.{linesOf, runOf, noCounts, numbersOf, ofRun};
+ghost use Rattle.tables.specs.Tests.{durableFrom, endedFrom};
+
+// A store: unlogged, where a transaction is open.
+fn of_store(counts: Counts, logged: &[u16; 4096], a: Range) -> Finding
+    requires { ⌜ rangeEnd a ≤ 4096 ⌝ }
+    ensures { λ r. ⌜ r ≡ findingBy (ofRun (runOf counts [] (now (logged .entry)) [] [] [] [])) (Event.Store a) ⌝ }
+{
+    if counts.depth == 0 {
+        return Finding::None;
+    }
+    match searches::first_since(logged, false, counts.begin, a) {
+        Search::Nothing => Finding::None,
+        Search::At(b) => Finding::Unlogged { lost: b },
+    }
+}
+
+// A write-back: clean or written twice.
+fn of_back(written: &[u16; 64], backed: &[u16; 64], a: Range) -> Finding
+    requires { ⌜ rangeEnd a ≤ 4096 ⌝ }
+    ensures { λ r. ⌜ r ≡ findingBy (ofRun (runOf (noCounts 0) [] [] [] [] (now (written .entry)) (now (backed .entry)))) (Event.WriteBack a) ⌝ }
+{
+    let at = window::line_of(a.address) as usize;
+    let n = window::line_count(a) as usize;
+    match searches::first_wasted(written, backed, at, n) {
+        Search::Nothing => Finding::None,
+        Search::At(l) => {
+            let lost = window::line_start(l);
+            let i = l as usize;
+            if written[i] == 0 {
+                Finding::Clean { lost }
+            } else {
+                Finding::WrittenTwice { lost }
+            }
+        }
+    }
+}
+
+// A log: logged twice.
+fn of_log(counts: Counts, logged: &[u16; 4096], a: Range) -> Finding
+    requires { ⌜ rangeEnd a ≤ 4096 ⌝ }
+    ensures { λ r. ⌜ r ≡ findingBy (ofRun (runOf counts [] (now (logged .entry)) [] [] [] [])) (Event.Log a) ⌝ }
+{
+    match searches::first_since(logged, true, counts.begin, a) {
+        Search::Nothing => Finding::None,
+        Search::At(b) => Finding::LoggedTwice { lost: b },
+    }
+}
+
+// Holds, or lost at the lowest of the n bytes from `at` on that was stored to after the begin and is not closed.
+fn durable(
+    counts: Counts,
+    stored: &[u16; 4096],
+    closed: &[u16; 4096],
+    begin: u16,
+    at: usize,
+    n: usize,
+) -> Finding
+    requires { ⌜ (counts .events < 65535) × (at + n ≤ 4096) ⌝ }
+    ensures { λ r. ⌜ r ≡ durableFrom counts (now (stored .entry)) (now (closed .entry)) begin at n ⌝ }
+{
+    match searches::first_open(stored, closed, begin, at, n) {
+        Search::Nothing => Finding::Holds,
+        Search::At(b) => {
+            let i = b as usize;
+            Finding::Lost {
+                lost: b,
+                moment: counts.events + 1,
+                store: stored[i],
+            }
+        }
+    }
+}
+
+// A persisted: holds or lost.
+fn of_persisted(counts: Counts, stored: &[u16; 4096], closed: &[u16; 4096], a: Range) -> Finding
+    requires { ⌜ (counts .events < 65535) × (rangeEnd a ≤ 4096) ⌝ }
+    ensures { λ r. ⌜ r ≡ durableFrom counts (now (stored .entry)) (now (closed .entry)) 0 (a .address) (a .length) ⌝ }
+{
+    let at = a.address as usize;
+    let n = a.length as usize;
+    durable(counts, stored, closed, 0, at, n)
+}
+
+// An end: none if it is an inner one; else empty, or as a persisted over the bytes stored since the begin.
+fn of_end(counts: Counts, stored: &[u16; 4096], closed: &[u16; 4096]) -> Finding
+    requires { ⌜ counts .events < 65535 ⌝ }
+    ensures { λ r. ⌜ r ≡ endedFrom counts (now (stored .entry)) (now (closed .entry)) ⌝ }
+{
+    if counts.depth != 1 {
+        return Finding::None;
+    }
+    if counts.store <= counts.begin {
+        return Finding::Empty;
+    }
+    let n = window::window_bytes(crate::lines_of(counts)) as usize;
+    durable(counts, stored, closed, counts.begin, 0, n)
+}
+
+// An ordered: holds or out of order.
+fn of_ordered(
+    stored: &[u16; 4096],
+    opened: &[u16; 4096],
+    closed: &[u16; 4096],
+    a: Range,
+    b: Range,
+) -> Finding
+    requires { ⌜ (rangeEnd a ≤ 4096) × (rangeEnd b ≤ 4096) ⌝ }
+    ensures { λ r. ⌜ r ≡ findingBy (ofRun (runOf (noCounts 0) (now (stored .entry)) [] (now (opened .entry)) (now (closed .entry)) [] [])) (Event.Ordered a b) ⌝ }
+{
+    match searches::first_pair(stored, opened, closed, a, b) {
+        PairSearch::Nothing => Finding::Holds,
+        PairSearch::At { kept, lost } => {
+            let k = kept as usize;
+            let l = lost as usize;
+            Finding::OutOfOrder {
+                lost,
+                kept,
+                moment: stored[k],
+                store: stored[l],
+            }
+        }
+    }
+}
+
+// The finding of an event that no limit refuses.
+pub fn finding_of(
+    counts: Counts,
+    stored: &[u16; 4096],
+    logged: &[u16; 4096],
+    opened: &[u16; 4096],
+    closed: &[u16; 4096],
+    written: &[u16; 64],
+    backed: &[u16; 64],
+    e: Event,
+) -> Finding
+    requires { ⌜ refusalBy (ofRun (numbersOf counts)) e ≡ Passed ⌝ }
+    ensures { λ r. ⌜
+        r ≡
+        findingBy
+        (ofRun
+        (runOf
+        counts
+        (now (stored .entry))
+        (now (logged .entry))
+        (now (opened .entry))
+        (now (closed .entry))
+        (now (written .entry))
+        (now (backed .entry))))
+        e
+        ⌝ }
+{
+    match e {
+        Event::Store(a) => of_store(counts, logged, a),
+        Event::WriteBack(a) => of_back(written, backed, a),
+        Event::Fence => Finding::None,
+        Event::Begin => Finding::None,
+        Event::Log(a) => of_log(counts, logged, a),
+        Event::End => of_end(counts, stored, closed),
+        Event::Persisted(a) => of_persisted(counts, stored, closed, a),
+        Event::Ordered(a, b) => of_ordered(stored, opened, closed, a, b),
+    }
+}

@@ -1,0 +1,126 @@
+// The tables of a run, and an event given to them in place: the caller lends the tables, and nothing of them is copied.
+use event::Answer;
+use event::Check;
+use event::Record;
+ghost use mathlib.Core.Path.{_≡_};
+ghost use Rattle.tables.specs.View.{linesOf, runOf};
+ghost use Rattle.tables.specs.Give.{outcomeOf, giveOf};
+
+mod findings; // the finding of each kind of event
+mod limits; // the limits on an event
+mod searches; // searches over the tables
+mod updates; // the run after an event
+mod writes; // writes to the tables
+
+// The numbers of a run. Event numbers start at 1, and 0 stands for none.
+pub struct Counts {
+    pub lines: u16, // of the window
+    pub events: u16,
+    pub fences: u16,
+    pub findings: u16, // other than none
+    pub depth: u16, // transactions open
+    pub begin: u16, // the latest outermost begin
+    pub store: u16, // the latest store
+    pub fence: u16, // the latest fence
+}
+
+// A run: its numbers, four tables over the bytes of the largest window and two over its lines.
+pub struct Run {
+    pub counts: Counts,
+    pub stored: [u16; 4096], // a byte's last store
+    pub logged: [u16; 4096], // a byte's last log
+    pub opened: [u16; 4096], // the epoch at which its interval opened
+    pub closed: [u16; 4096], // the epoch at which it closed, 0 while it is open
+    pub written: [u16; 64], // the last store to a line
+    pub backed: [u16; 64], // the last write-back of a line
+}
+
+// An event given to a run: its refusal or its finding, and the run to go on with.
+pub struct Given {
+    pub answer: Answer,
+    pub run: Run,
+}
+
+// An event given to tables that the caller lends: its refusal or its finding, and the numbers to go on with.
+pub struct Stepped {
+    pub answer: Answer,
+    pub counts: Counts,
+}
+
+// What a search over bytes or lines found.
+pub enum Search {
+    Nothing,
+    At(u16),
+}
+
+// What a search over pairs of bytes found.
+pub enum PairSearch {
+    Nothing,
+    At { kept: u16, lost: u16 },
+}
+
+// The window's lines, at most those of the largest window.
+pub fn lines_of(counts: Counts) -> u16
+    ensures { λ r. ⌜ r ≡ linesOf counts ⌝ }
+{
+    if counts.lines < 64 { counts.lines } else { 64 }
+}
+
+// Refused by the first of 8 to 12 that applies, with numbers and tables as they were; or the finding, and the numbers and tables
+// after the event.
+pub fn step(
+    counts: Counts,
+    stored: &mut [u16; 4096],
+    logged: &mut [u16; 4096],
+    opened: &mut [u16; 4096],
+    closed: &mut [u16; 4096],
+    written: &mut [u16; 64],
+    backed: &mut [u16; 64],
+    r: Record,
+) -> Stepped
+    ensures { λ s. ⌜
+        outcomeOf
+        s
+        (now (stored .exit))
+        (now (logged .exit))
+        (now (opened .exit))
+        (now (closed .exit))
+        (now (written .exit))
+        (now (backed .exit)) ≡
+        giveOf
+        (runOf
+        counts
+        (now (stored .entry))
+        (now (logged .entry))
+        (now (opened .entry))
+        (now (closed .entry))
+        (now (written .entry))
+        (now (backed .entry)))
+        r
+        ⌝ }
+{
+    let e = r.event;
+    match limits::check_event(counts, e) {
+        Check::Refused(x) => Stepped {
+            answer: Answer::Refused(x),
+            counts,
+        },
+        Check::Passed => {
+            let finding = findings::finding_of(
+                counts,
+                stored,
+                logged,
+                opened,
+                closed,
+                written,
+                backed,
+                e,
+            );
+            updates::update(counts, stored, logged, opened, closed, written, backed, e);
+            Stepped {
+                answer: Answer::Found(finding),
+                counts: updates::counts_after(counts, e, finding),
+            }
+        }
+    }
+}

@@ -1,0 +1,63 @@
+// The limits 8 to 12 on an event, in this order.
+use crate::Counts;
+use event::Check;
+use event::Event;
+use event::Refusal;
+use event::window;
+ghost use mathlib.Core.Path.{_≡_};
+ghost use mathlib.Core.Bool.{cond};
+ghost use lib.Dec.{eqb, leb};
+ghost use Rattle.history.specs.Refused.{mostDepth, refusalBy};
+ghost use Rattle.tables.specs.View.{numbersOf, ofRun};
+ghost use Rattle.tables.specs.Tests.{stateCheck};
+
+// The limit 11: a log or an end asks for an open transaction.
+fn check_open(depth: u16) -> Check
+    ensures { λ c. ⌜ c ≡ cond (eqb depth 0) (Check.Refused Refusal.NoTransaction) Check.Passed ⌝ }
+{
+    if depth == 0 {
+        Check::Refused(Refusal::NoTransaction)
+    } else {
+        Check::Passed
+    }
+}
+
+// The limit 12: transactions nest to depth 8.
+fn check_depth(depth: u16) -> Check
+    ensures { λ c. ⌜ c ≡ cond (leb mostDepth depth) (Check.Refused Refusal.TooDeep) Check.Passed ⌝ }
+{
+    if 8 <= depth {
+        Check::Refused(Refusal::TooDeep)
+    } else {
+        Check::Passed
+    }
+}
+
+// The limits 10, 11 and 12.
+fn check_state(counts: Counts, e: Event) -> Check
+    ensures { λ c. ⌜ c ≡ stateCheck counts e ⌝ }
+{
+    if counts.events == 65535 {
+        return Check::Refused(Refusal::EventsExhausted);
+    }
+    match e {
+        Event::Begin => check_depth(counts.depth),
+        Event::Log(_) => check_open(counts.depth),
+        Event::End => check_open(counts.depth),
+        Event::Store(_) => Check::Passed,
+        Event::WriteBack(_) => Check::Passed,
+        Event::Fence => Check::Passed,
+        Event::Persisted(_) => Check::Passed,
+        Event::Ordered(_, _) => Check::Passed,
+    }
+}
+
+// All of them.
+pub fn check_event(counts: Counts, e: Event) -> Check
+    ensures { λ c. ⌜ c ≡ refusalBy (ofRun (numbersOf counts)) e ⌝ }
+{
+    match window::check_ranges(crate::lines_of(counts), e) {
+        Check::Refused(x) => Check::Refused(x),
+        Check::Passed => check_state(counts, e),
+    }
+}

@@ -1,0 +1,91 @@
+// Writes to the tables.
+use event::Range;
+use event::window;
+ghost use mathlib.Core.Path.{_≡_};
+ghost use Prim.Native.Nat.{_+_, _≤_};
+ghost use lib.ListN.{length};
+ghost use Rattle.event.specs.Window.{windowBytes, rangeEnd};
+ghost use Rattle.tables.specs.Table.{entry, changed, filled, filledBytes, filledLines};
+ghost use Rattle.tables.specs.Tests.{closedNow, fenced};
+
+// The n entries from `at` on become x.
+fn fill(xs: &mut [u16], at: usize, n: usize, x: u16)
+    requires { ⌜ at + n ≤ length (now xs) ⌝ }
+    ensures { λ _. ⌜ now (xs .exit) ≡ filled x at n (now (xs .entry)) ⌝ }
+{
+    let mut i = 0;
+    while i < n {
+        xs[at + i] = x;
+        i += 1;
+    }
+}
+
+// The entries of a range's bytes become x.
+pub fn fill_bytes(xs: &mut [u16; 4096], a: Range, x: u16)
+    requires { ⌜ rangeEnd a ≤ 4096 ⌝ }
+    ensures { λ _. ⌜ now (xs .exit) ≡ filledBytes x a (now (xs .entry)) ⌝ }
+{
+    let at = a.address as usize;
+    let n = a.length as usize;
+    fill(xs, at, n, x);
+}
+
+// The entries of the lines that a range touches become x.
+pub fn fill_lines(xs: &mut [u16; 64], a: Range, x: u16)
+    requires { ⌜ rangeEnd a ≤ 4096 ⌝ }
+    ensures { λ _. ⌜ now (xs .exit) ≡ filledLines x a (now (xs .entry)) ⌝ }
+{
+    let at = window::line_of(a.address) as usize;
+    let n = window::line_count(a) as usize;
+    fill(xs, at, n, x);
+}
+
+// The closing epoch of a byte after a fence that begins an epoch, where its line was last written back at `back`.
+fn closed_now(back: u16, epoch: u16, store: u16, closed: u16) -> u16
+    ensures { λ r. ⌜ r ≡ closedNow back epoch store closed ⌝ }
+{
+    if store == 0 {
+        return closed;
+    }
+    if closed != 0 {
+        return closed;
+    }
+    if store < back { epoch } else { closed }
+}
+
+// The bytes of one line after the fence.
+fn close_line(closed: &mut [u16; 4096], stored: &[u16; 4096], at: usize, back: u16, epoch: u16)
+    requires { ⌜ at + 64 ≤ 4096 ⌝ }
+    ensures { λ _. ⌜ now (closed .exit) ≡ changed (λ b old. closedNow back epoch (entry (now (stored .entry)) b) old) at 64 (now (closed .entry)) ⌝ }
+{
+    let mut i = 0;
+    while i < 64 {
+        let b = at + i;
+        closed[b] = closed_now(back, epoch, stored[b], closed[b]);
+        i += 1;
+    }
+}
+
+// The bytes of the window after the fence: of each line that was written back since the last fence.
+pub fn close_lines(
+    closed: &mut [u16; 4096],
+    stored: &[u16; 4096],
+    backed: &[u16; 64],
+    lines: u16,
+    fence: u16,
+    epoch: u16,
+)
+    requires { ⌜ lines ≤ 64 ⌝ }
+    ensures { λ _. ⌜ now (closed .exit) ≡ changed (fenced fence epoch (now (stored .entry)) (now (backed .entry))) 0 (windowBytes lines) (now (closed .entry)) ⌝ }
+{
+    let mut l: u16 = 0;
+    while l < lines {
+        let i = l as usize;
+        let back = backed[i];
+        if fence < back {
+            let at = window::line_start(l) as usize;
+            close_line(closed, stored, at, back, epoch);
+        }
+        l += 1;
+    }
+}
