@@ -9,17 +9,17 @@ use Rattle.event.specs.declared.Interval.the-variants.{None, Open, Closed}
 use Rattle.event.proofs.Bools.{contradiction}
 use Rattle.history.specs.Count.{orElse, ifSome}
 use Rattle.history.specs.Found.{isOpen}
-use Rattle.claims.specs.Paper.{ends}
+use Rattle.claims.specs.Paper.{endAt}
 
 -- an interval that was ended is not open
-pub ended : (t : ℕ) (i : Interval) → isOpen (ends t i) ≡ false
+pub ended : (t : ℕ) (i : Interval) → isOpen (endAt t i) ≡ false
 ended t None = refl
 ended t (Open s) = refl
 ended t (Closed s e) = refl
 
 -- the interval ends at t if the test passes
 abbrev pub endsIf : Bool → ℕ → Interval → Interval
-endsIf c t i = cond c (ends t i) i
+endsIf c t i = cond c (endAt t i) i
 
 -- an interval that is not open stays as it is
 pub unchanged : (c : Bool) (t : ℕ) (i : Interval) → isOpen i ≡ false → endsIf c t i ≡ i

@@ -4,3 +4,5 @@ pub mod Rules  -- what the rules of paper 000 do to each part of the status
 pub mod First  -- the first event that passes a test, when one more event comes
 pub mod Next  -- what one more event does to the interval of a byte
 pub mod Paper  -- the rules of paper 000 give the same intervals
+pub mod Answers  -- what the run answers after events given from a fresh window
+pub mod Demands  -- the demands hold

@@ -30,17 +30,17 @@ abbrev pub clwb : Status → Status
 clwb s = record { timestamp = s .timestamp; persist = s .persist; flush = Open (s .timestamp) }
 
 -- an interval that has no end yet ends at the timestamp
-abbrev pub ends : ℕ → Interval → Interval
-ends t None = None
-ends t (Open s) = Closed s t
-ends t (Closed s e) = Closed s e
+abbrev pub endAt : ℕ → Interval → Interval
+endAt t None = None
+endAt t (Open s) = Closed s t
+endAt t (Closed s e) = Closed s e
 
 -- sfence: first, increments the timestamp; second, ends the flush interval of a prior clwb; third, ends the persist interval of
 -- that clwb
 abbrev pub sfence : Status → Status
 sfence s =
     let t = suc (s .timestamp) in
-    record { timestamp = t; persist = cond (isOpen (s .flush)) (ends t (s .persist)) (s .persist); flush = ends t (s .flush) }
+    record { timestamp = t; persist = cond (isOpen (s .flush)) (endAt t (s .persist)) (s .persist); flush = endAt t (s .flush) }
 
 -- what an event does to the status of byte b
 abbrev pub updated : ℕ → Event → Status → Status

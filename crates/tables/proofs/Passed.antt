@@ -1,6 +1,6 @@
--- What holds of an event that no limit refuses, and how the code's two checks make one.
+-- What holds of an event that no limit refuses.
 use mathlib.Core.Path.{_≡_, refl}
-use mathlib.Core.Bool.{Bool, true, false, cond, _&&_, _||_}
+use mathlib.Core.Bool.{Bool, true, false, _&&_, _||_}
 use mathlib.Core.List.{List, [], _∷_}
 use Prim.Native.Nat.{ℕ, _*_, _≤_, _<_}
 use native.Mathlib.Omega.{arith}
@@ -9,17 +9,14 @@ use borrow.Author.Tests.{eqb-false, leb-false, ltb-false}
 use Rattle.event.specs.declared.Range.{Range}
 use Rattle.event.specs.declared.Event.{Event}
 use Rattle.event.specs.declared.Event.the-variants.{Begin, End}
-use Rattle.event.specs.declared.Refusal.{Refusal}
-use Rattle.event.specs.declared.Refusal.the-variants.{EmptyRange, PastWindow}
 use Rattle.event.specs.declared.Check.{Check}
 use Rattle.event.specs.declared.Check.the-variants.{Passed, Refused}
-use Rattle.event.specs.Window.{isEmpty, isPast, rangeEnd, rangesOf, anyRange, limitsCheck, rangeCheck}
+use Rattle.event.specs.Window.{isPast, rangeEnd, rangesOf, anyRange}
 use Rattle.history.specs.History.{begins}
 use Rattle.history.specs.Refused.{Limit, limitsBy, firstBroken, NoneBroken, asksOpen, refusalBy}
 use Rattle.history.proofs.Given.{Checked, checked}
 use Rattle.tables.specs.declared.Counts.{Counts}
-use Rattle.tables.specs.View.{linesOf, numbersOf, ofRun}
-use Rattle.tables.specs.Tests.{stateCheck}
+use Rattle.tables.specs.View.{linesOf, limitsOf}
 
 -- no limit is broken where the check passes
 none-broken : (limits : List Limit) → firstBroken limits ≡ Passed → NoneBroken limits
@@ -36,11 +33,11 @@ pub record Passes (counts : Counts) (e : Event) : Type 0 where
   pub inside : asksOpen e && eqb (counts .depth) 0 ≡ false
   pub nests : begins e && leb 8 (counts .depth) ≡ false
 
-pub passed : (counts : Counts) (e : Event) → refusalBy (ofRun (numbersOf counts)) e ≡ Passed → Passes counts e
+pub passed : (counts : Counts) (e : Event) → refusalBy (limitsOf counts) e ≡ Passed → Passes counts e
 unfolding refusalBy
-passed counts e k = go (none-broken (limitsBy (ofRun (numbersOf counts)) e) k)
+passed counts e k = go (none-broken (limitsBy (limitsOf counts) e) k)
   where
-    go : NoneBroken (limitsBy (ofRun (numbersOf counts)) e) → Passes counts e
+    go : NoneBroken (limitsBy (limitsOf counts) e) → Passes counts e
     go (NoneBroken.cons a (NoneBroken.cons b (NoneBroken.cons c (NoneBroken.cons d (NoneBroken.cons f g))))) =
         record { events = leb-false 65535 (counts .events) c; ranges = b; inside = d; nests = f }
 
@@ -52,34 +49,14 @@ within-tables counts a rest e = go (isPast (linesOf counts) a) refl e
     go true k f = let z : _≡_ {A = ℕ} 0 1 = cc in absurd (omega arith)
     go false k f = let h : rangeEnd a ≤ linesOf counts * 64 = ltb-false (linesOf counts * 64) (rangeEnd a) k in omega arith
 
--- the check of the ranges and then that of the state are the check of all limits: where the first refuses
-pub range-refused : (counts : Counts) (e : Event) {x : Refusal} → rangeCheck (linesOf counts) e ≡ Refused x → Refused x ≡ refusalBy (ofRun (numbersOf counts)) e
-unfolding refusalBy
-range-refused counts e {x} k = go (anyRange isEmpty (rangesOf e)) (anyRange (isPast (linesOf counts)) (rangesOf e)) k
-  where
-    go : (empty past : Bool) → limitsCheck empty past ≡ Refused x → Refused x ≡ cond empty (Refused EmptyRange) (cond past (Refused PastWindow) (stateCheck counts e))
-    go true past f = cc
-    go false true f = cc
-    go false false f = let z : _≡_ {A = ℕ} 0 1 = cc in absurd (omega arith)
-
--- where it passes
-pub range-passed : (counts : Counts) (e : Event) → rangeCheck (linesOf counts) e ≡ Passed → stateCheck counts e ≡ refusalBy (ofRun (numbersOf counts)) e
-unfolding refusalBy
-range-passed counts e k = go (anyRange isEmpty (rangesOf e)) (anyRange (isPast (linesOf counts)) (rangesOf e)) k
-  where
-    go : (empty past : Bool) → limitsCheck empty past ≡ Passed → stateCheck counts e ≡ cond empty (Refused EmptyRange) (cond past (Refused PastWindow) (stateCheck counts e))
-    go true past f = let z : _≡_ {A = ℕ} 0 1 = cc in absurd (omega arith)
-    go false true f = let z : _≡_ {A = ℕ} 0 1 = cc in absurd (omega arith)
-    go false false f = refl
-
 -- the first range of an event that passes is within the tables
 pub first-range : (counts : Counts) (e : Event) (a : Range) (rest : List Range) → rangesOf e ≡ a ∷ rest →
-    refusalBy (ofRun (numbersOf counts)) e ≡ Passed → rangeEnd a ≤ 4096
+    refusalBy (limitsOf counts) e ≡ Passed → rangeEnd a ≤ 4096
 first-range counts e a rest k p = within-tables counts a rest (rw k at (passed counts e p .ranges))
 
 -- and so is the second
 pub second-range : (counts : Counts) (e : Event) (a b : Range) → rangesOf e ≡ a ∷ b ∷ [] →
-    refusalBy (ofRun (numbersOf counts)) e ≡ Passed → rangeEnd b ≤ 4096
+    refusalBy (limitsOf counts) e ≡ Passed → rangeEnd b ≤ 4096
 second-range counts e a b k p = within-tables counts b [] (rest (isPast (linesOf counts) a) (rw k at (passed counts e p .ranges)))
   where
     rest : (t : Bool) {u : Bool} → t || u ≡ false → u ≡ false
@@ -87,9 +64,9 @@ second-range counts e a b k p = within-tables counts b [] (rest (isPast (linesOf
     rest false f = f
 
 -- a begin that passes is at a depth below 8
-pub begin-below : (counts : Counts) → refusalBy (ofRun (numbersOf counts)) Begin ≡ Passed → counts .depth < 8
+pub begin-below : (counts : Counts) → refusalBy (limitsOf counts) Begin ≡ Passed → counts .depth < 8
 begin-below counts p = leb-false 8 (counts .depth) (passed counts Begin p .nests)
 
 -- an end that passes has a transaction open
-pub end-inside : (counts : Counts) → refusalBy (ofRun (numbersOf counts)) End ≡ Passed → 1 ≤ counts .depth
+pub end-inside : (counts : Counts) → refusalBy (limitsOf counts) End ≡ Passed → 1 ≤ counts .depth
 end-inside counts p = let z : counts .depth ≡ 0 → ⊥ = eqb-false (counts .depth) 0 (passed counts End p .inside) in omega arith

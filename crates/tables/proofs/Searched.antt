@@ -1,13 +1,12 @@
 -- What a search found, by what it answered.
-use mathlib.Core.Path.{_≡_, refl, sym, _∙_}
+use mathlib.Core.Path.{_≡_, refl}
 use mathlib.Core.Bool.{Bool, true, false, cond}
 use mathlib.Core.Option.{Option, none, some}
 use Prim.Native.Nat.{ℕ, zero, suc, _+_, _<_}
 use native.Mathlib.Omega.{arith}
 use Rattle.event.specs.declared.Range.{Range}
-use Rattle.event.specs.declared.Finding.{Finding}
 use Rattle.event.specs.Window.{rangeEnd}
-use Rattle.history.specs.Found.{lowest, lowestIn, lowestPair, orPair, foundOr, Pair}
+use Rattle.history.specs.Found.{lowest, lowestIn, lowestPair, orPair, Pair}
 use Rattle.tables.specs.declared.Search.{Search}
 use Rattle.tables.specs.declared.Search.the-variants.{Nothing, At}
 use Rattle.tables.specs.declared.PairSearch.{PairSearch}

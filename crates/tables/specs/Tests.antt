@@ -4,13 +4,9 @@ use mathlib.Core.List.{List, []}
 use mathlib.Core.Option.{Option, none, some}
 use Prim.Native.Nat.{ℕ}
 use lib.Dec.{ltb, eqb}
-use lib.ListN.{drop}
-use Rattle.event.specs.declared.Event.{Event}
 use Rattle.event.specs.declared.Finding.{Finding}
 use Rattle.event.specs.declared.Finding.the-variants.{None, Empty}
-use Rattle.event.specs.declared.Check.{Check}
 use Rattle.event.specs.Window.{windowBytes, lineOf}
-use Rattle.history.specs.Refused.{limitsBy, firstBroken}
 use Rattle.history.specs.Found.{Pair, lowest, durable}
 use Rattle.tables.specs.declared.Counts.{Counts}
 use Rattle.tables.specs.declared.Search.{Search}
@@ -18,7 +14,7 @@ use Rattle.tables.specs.declared.Search.the-variants.{Nothing, At}
 use Rattle.tables.specs.declared.PairSearch.{PairSearch}
 use Rattle.tables.specs.declared.PairSearch.the-variants.{Nothing as NoPair, At as AtPair}
 use Rattle.tables.specs.Table.{entry}
-use Rattle.tables.specs.View.{linesOf, runOf, numbersOf, ofRun}
+use Rattle.tables.specs.View.{linesOf, runOf, ofRun}
 
 -- what a search answers
 unfoldable pub searched : Option ℕ → Search
@@ -88,7 +84,3 @@ closedNow back epoch store closed = cond (not (eqb store 0) && eqb closed 0 && l
 abbrev pub fenced : (fence epoch : ℕ) → (stored backed : List ℕ) → (b old : ℕ) → ℕ
 fenced fence epoch stored backed b old =
     cond (ltb fence (entry backed (lineOf b))) (closedNow (entry backed (lineOf b)) epoch (entry stored b) old) old
-
--- the limits on an event that do not ask for its ranges
-abbrev pub stateCheck : Counts → Event → Check
-stateCheck counts e = firstBroken (drop 2 (limitsBy (ofRun (numbersOf counts)) e))

@@ -1,11 +1,12 @@
 -- The questions of a judge (`View`), answered by a run.
-use mathlib.Core.List.{List, []}
+use mathlib.Core.List.{List}
 use Prim.Native.Nat.{ℕ, min}
 use Rattle.event.specs.declared.Interval.{Interval}
 use Rattle.event.specs.declared.Interval.the-variants.{None, Open, Closed}
 use Rattle.event.specs.Window.{mostLines}
 use Rattle.history.specs.Count.{ifSome}
 use Rattle.history.specs.View.{View}
+use Rattle.limits.specs.Limits.{numbersOf}
 use Rattle.tables.specs.declared.Counts.{Counts}
 use Rattle.tables.specs.declared.Run.{Run}
 use Rattle.tables.specs.Table.{entry}
@@ -19,13 +20,13 @@ runOf counts stored logged opened closed written backed =
 abbrev pub noCounts : ℕ → Counts
 noCounts lines = record { lines = lines; events = 0; fences = 0; findings = 0; depth = 0; begin = 0; store = 0; fence = 0 }
 
--- the numbers alone: what asks for no table is the same for every run that has them
-abbrev pub numbersOf : Counts → Run
-numbersOf counts = runOf counts [] [] [] [] [] []
-
 -- the window's lines, at most those of the largest window: so no run leads past the end of a table
 abbrev pub linesOf : Counts → ℕ
 linesOf counts = min (counts .lines) mostLines
+
+-- what the limits on an event ask of a run
+abbrev pub limitsOf : Counts → View
+limitsOf counts = numbersOf (linesOf counts) (counts .events) (counts .depth)
 
 -- a byte's interval from its last store, its opening and its closing epoch: none without a store, open without a closing epoch
 abbrev pub intervalFrom : ℕ → ℕ → ℕ → Interval

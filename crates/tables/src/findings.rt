@@ -14,7 +14,7 @@ ghost use Rattle.event.specs.declared.Check.the-variants.{Passed};
 ghost use Rattle.event.specs.Window.{rangeEnd};
 ghost use Rattle.history.specs.Refused.{refusalBy};
 ghost use Rattle.history.specs.Found.{findingBy};
-ghost use Rattle.tables.specs.View.{linesOf, runOf, noCounts, numbersOf, ofRun};
+ghost use Rattle.tables.specs.View.{runOf, noCounts, limitsOf, ofRun};
 ghost use Rattle.tables.specs.Tests.{durableFrom, endedFrom};
 
 // A store: unlogged, where a transaction is open.
@@ -150,7 +150,7 @@ pub fn finding_of(
     backed: &[u16; 64],
     e: Event,
 ) -> Finding
-    requires { ⌜ refusalBy (ofRun (numbersOf counts)) e ≡ Passed ⌝ }
+    requires { ⌜ refusalBy (limitsOf counts) e ≡ Passed ⌝ }
     ensures { λ r. ⌜
         r ≡
         findingBy

@@ -7,7 +7,6 @@ ghost use Rattle.tables.specs.View.{linesOf, runOf};
 ghost use Rattle.tables.specs.Give.{outcomeOf, giveOf};
 
 mod findings; // the finding of each kind of event
-mod limits; // the limits on an event
 mod searches; // searches over the tables
 mod updates; // the run after an event
 mod writes; // writes to the tables
@@ -100,11 +99,14 @@ pub fn step(
         ⌝ }
 {
     let e = r.event;
-    match limits::check_event(counts, e) {
-        Check::Refused(x) => Stepped {
-            answer: Answer::Refused(x),
-            counts,
-        },
+    match limits::check_event(lines_of(counts), counts.events, counts.depth, e) {
+        Check::Refused(x) => {
+            let unchanged = counts;
+            Stepped {
+                answer: Answer::Refused(x),
+                counts: unchanged,
+            }
+        }
         Check::Passed => {
             let finding = findings::finding_of(
                 counts,

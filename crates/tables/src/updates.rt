@@ -13,7 +13,7 @@ ghost use Rattle.event.specs.declared.Check.the-variants.{Passed};
 ghost use Rattle.event.specs.Window.{rangeEnd};
 ghost use Rattle.history.specs.Refused.{refusalBy};
 ghost use Rattle.tables.specs.Table.{filledBytes, filledLines};
-ghost use Rattle.tables.specs.View.{runOf, numbersOf, ofRun};
+ghost use Rattle.tables.specs.View.{runOf, limitsOf, ofRun};
 ghost use Rattle.tables.specs.Next.{oneMore, isNone, countsAfter, tablesAfter};
 
 // The count of findings other than none, with one more finding.
@@ -29,7 +29,7 @@ fn findings_after(n: u16, f: Finding) -> u16
 
 // The numbers after an event that got this finding.
 pub fn counts_after(counts: Counts, e: Event, f: Finding) -> Counts
-    requires { ⌜ refusalBy (ofRun (numbersOf counts)) e ≡ Passed ⌝ }
+    requires { ⌜ refusalBy (limitsOf counts) e ≡ Passed ⌝ }
     ensures { λ r. ⌜ r ≡ countsAfter counts e f ⌝ }
 {
     let number = counts.events + 1;
@@ -101,7 +101,7 @@ pub fn update(
     backed: &mut [u16; 64],
     e: Event,
 )
-    requires { ⌜ refusalBy (ofRun (numbersOf counts)) e ≡ Passed ⌝ }
+    requires { ⌜ refusalBy (limitsOf counts) e ≡ Passed ⌝ }
     ensures { λ _. ⌜
         runOf
         counts

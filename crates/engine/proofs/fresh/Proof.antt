@@ -1,7 +1,5 @@
 -- `engine::fresh` meets its contract: the check of the lines decides.
 -- Assumes nothing.
-use mathlib.Core.Path.{_≡_}
-use Rattle.event.specs.Window.{linesCheck}
 use Rattle.event.proofs.Laws.{equal-by}
 use borrow.Author.Needs.{needs}
 use Rattle.engine.proofs.fresh.Statement.{statement}

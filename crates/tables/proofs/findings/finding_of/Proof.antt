@@ -1,10 +1,9 @@
 -- `tables::findings::finding_of` meets its contract, case by case: the limits keep the ranges within the tables.
 -- Assumes nothing.
-use mathlib.Core.Path.{_≡_, refl}
+use mathlib.Core.Path.{refl}
 use mathlib.Core.List.{[], _∷_}
-use native.Mathlib.Omega.{arith}
 use borrow.Author.Needs.{needs}
-use Rattle.event.specs.declared.Event.the-variants.{Store, WriteBack, Log, End, Persisted, Ordered}
+use Rattle.event.specs.declared.Event.the-variants.{Store, WriteBack, Log, Persisted, Ordered}
 use Rattle.history.specs.Found.{findingBy}
 use Rattle.tables.specs.View.{runOf}
 use Rattle.tables.proofs.Tests.{persisted-found, end-found, ordered-tables}

@@ -1,6 +1,5 @@
 -- `tables::findings::of_end` meets its contract: each way out goes by the tests that led there.
 -- Assumes nothing.
-use native.Mathlib.Omega.{arith}
 use borrow.Author.Needs.{needs}
 use borrow.Author.Tests.{eq-eqb, ne-eqb, lt-ltb, le-ltb}
 use Rattle.tables.proofs.findings.of_end.Statement.{statement}

@@ -1,6 +1,6 @@
 -- `tables::updates::update` meets its contract, case by case: each table is what its call ensures, and the others are as they were.
 -- Assumes nothing.
-use mathlib.Core.Path.{_≡_, refl}
+use mathlib.Core.Path.{refl}
 use mathlib.Core.List.{[]}
 use native.Mathlib.Numerals.{add-one}
 use native.Mathlib.Omega.{arith}

@@ -3,8 +3,6 @@
 use mathlib.Core.Path.{_≡_, refl}
 use Prim.Native.Nat.{_≤_, _-_}
 use native.Mathlib.Omega.{arith}
-use lib.ListN.{length}
-use borrow.Author.Needs.{needs}
 use Rattle.tables.specs.Table.{changed, filled}
 use Rattle.tables.proofs.Table.{changed-length, changed-turn, changed-done}
 use Rattle.tables.proofs.writes.fill.Statement.{statement}

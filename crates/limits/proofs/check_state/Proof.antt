@@ -1,18 +1,18 @@
--- `tables::limits::check_state` meets its contract: 10 goes first, and the case decides between 11 and 12.
+-- `limits::check_state` meets its contract: 10 goes first, and the case decides between 11 and 12.
 -- Assumes nothing.
 use Prim.Native.Nat.{_<_}
 use native.Mathlib.Omega.{arith}
 use borrow.Author.Needs.{needs}
 use borrow.Author.Tests.{le-leb, lt-leb}
-use Rattle.tables.proofs.limits.check_state.Statement.{statement}
-use Rattle.tables.proofs.limits.check_state.Tie as tie
+use Rattle.limits.proofs.check_state.Statement.{statement}
+use Rattle.limits.proofs.check_state.Tie as tie
 
 -- where 10 does not apply
-few : (c : tie.Else1) → c .before .before .args .counts .events < 65535
+few : (c : tie.Else1) → c .before .args .events < 65535
 few c = omega arith
 
 returns : tie.Need-returns
-returns c = rw (le-leb 65535 (c .before .before .args .counts .events) (omega arith))
+returns c = rw (le-leb 65535 (c .before .args .events) (omega arith))
 
 enum-told : tie.Need-enum-told
 enum-told c = search needs

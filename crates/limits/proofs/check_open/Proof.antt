@@ -1,8 +1,8 @@
--- `tables::limits::check_open` meets its contract, by its test.
+-- `limits::check_open` meets its contract, by its test.
 -- Assumes nothing.
 use borrow.Author.Tests.{eq-eqb, ne-eqb}
-use Rattle.tables.proofs.limits.check_open.Statement.{statement}
-use Rattle.tables.proofs.limits.check_open.Tie as tie
+use Rattle.limits.proofs.check_open.Statement.{statement}
+use Rattle.limits.proofs.check_open.Tie as tie
 
 returns : tie.Need-returns
 returns c = simp (eq-eqb _ 0 (c .if1 .taken))

@@ -1,8 +1,8 @@
--- `tables::limits::check_depth` meets its contract, by its test.
+-- `limits::check_depth` meets its contract, by its test.
 -- Assumes nothing.
 use borrow.Author.Tests.{le-leb, lt-leb}
-use Rattle.tables.proofs.limits.check_depth.Statement.{statement}
-use Rattle.tables.proofs.limits.check_depth.Tie as tie
+use Rattle.limits.proofs.check_depth.Statement.{statement}
+use Rattle.limits.proofs.check_depth.Tie as tie
 
 returns : tie.Need-returns
 returns c = simp (le-leb _ _ (c .if1 .taken))

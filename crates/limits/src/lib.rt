@@ -1,5 +1,4 @@
-// The limits 8 to 12 on an event, in this order.
-use crate::Counts;
+// The limits 8 to 12 on an event that is given to a run.
 use event::Check;
 use event::Event;
 use event::Refusal;
@@ -8,8 +7,7 @@ ghost use mathlib.Core.Path.{_≡_};
 ghost use mathlib.Core.Bool.{cond};
 ghost use lib.Dec.{eqb, leb};
 ghost use Rattle.history.specs.Refused.{mostDepth, refusalBy};
-ghost use Rattle.tables.specs.View.{numbersOf, ofRun};
-ghost use Rattle.tables.specs.Tests.{stateCheck};
+ghost use Rattle.limits.specs.Limits.{numbersOf, stateCheck};
 
 // The limit 11: a log or an end asks for an open transaction.
 fn check_open(depth: u16) -> Check
@@ -34,16 +32,16 @@ fn check_depth(depth: u16) -> Check
 }
 
 // The limits 10, 11 and 12.
-fn check_state(counts: Counts, e: Event) -> Check
-    ensures { λ c. ⌜ c ≡ stateCheck counts e ⌝ }
+fn check_state(events: u16, depth: u16, e: Event) -> Check
+    ensures { λ c. ⌜ c ≡ stateCheck events depth e ⌝ }
 {
-    if counts.events == 65535 {
+    if events == 65535 {
         return Check::Refused(Refusal::EventsExhausted);
     }
     match e {
-        Event::Begin => check_depth(counts.depth),
-        Event::Log(_) => check_open(counts.depth),
-        Event::End => check_open(counts.depth),
+        Event::Begin => check_depth(depth),
+        Event::Log(_) => check_open(depth),
+        Event::End => check_open(depth),
         Event::Store(_) => Check::Passed,
         Event::WriteBack(_) => Check::Passed,
         Event::Fence => Check::Passed,
@@ -52,12 +50,13 @@ fn check_state(counts: Counts, e: Event) -> Check
     }
 }
 
-// All of them.
-pub fn check_event(counts: Counts, e: Event) -> Check
-    ensures { λ c. ⌜ c ≡ refusalBy (ofRun (numbersOf counts)) e ⌝ }
+// The first of the limits 8 to 12 that an event breaks, in a window of so many lines, after so many events, with so many
+// transactions open.
+pub fn check_event(lines: u16, events: u16, depth: u16, e: Event) -> Check
+    ensures { λ c. ⌜ c ≡ refusalBy (numbersOf lines events depth) e ⌝ }
 {
-    match window::check_ranges(crate::lines_of(counts), e) {
+    match window::check_ranges(lines, e) {
         Check::Refused(x) => Check::Refused(x),
-        Check::Passed => check_state(counts, e),
+        Check::Passed => check_state(events, depth, e),
     }
 }

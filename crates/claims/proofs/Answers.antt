@@ -1,0 +1,92 @@
+-- The run after events given from a fresh window, and what it answers: what the accepted events say.
+use mathlib.Core.Path.{_≡_, refl, sym, ap, _∙_}
+use mathlib.Core.Bool.{Bool, true, false, cond, _||_}
+use mathlib.Core.Logic.{_⊎_, inl, inr, _↔_}
+use mathlib.Core.List.{List, []}
+use Prim.Native.Nat.{ℕ, _≤_}
+use native.Mathlib.Omega.{arith}
+use lib.Dec.{eqb, ltb}
+use borrow.Author.Tests.{ltb-false}
+use Rattle.event.specs.declared.Record.{Record}
+use Rattle.event.specs.declared.Finding.{Finding}
+use Rattle.event.specs.declared.Finding.the-variants.{Holds}
+use Rattle.event.specs.declared.Refusal.{Refusal}
+use Rattle.event.specs.declared.Refusal.the-variants.{BadLines}
+use Rattle.event.specs.declared.Check.{Check}
+use Rattle.event.specs.declared.Check.the-variants.{Passed, Refused as Breaks}
+use Rattle.event.specs.declared.Answer.{Answer}
+use Rattle.event.specs.declared.Answer.the-variants.{Refused, Found}
+use Rattle.event.specs.Window.{mostLines}
+use Rattle.history.specs.View.{ofHistory}
+use Rattle.history.specs.Refused.{limitsBy}
+use Rattle.history.specs.Found.{findingBy}
+use Rattle.history.specs.Given.{windowFor, windowOf, RefusedBy, Accepted, answers}
+use Rattle.history.proofs.Claim.{Inside}
+use Rattle.history.proofs.Given.{Checked, checked, answer-refused, answer-found}
+use Rattle.history.proofs.Meaning.Accepted.{Taken, accepted-taken}
+use Rattle.tables.specs.View.{ofRun}
+use Rattle.tables.specs.Give.{giveOf}
+use Rattle.engine.specs.Tracks.{Tracks}
+use Rattle.engine.proofs.Histories.{taken-inside}
+use Rattle.engine.proofs.Answered.{Answered, answered}
+use Rattle.engine.proofs.Link.{same-view, tracks, same-answers}
+use Rattle.claims.specs.After.{runOf, takenOf, answersOf}
+
+-- a window has at most 64 lines
+pub window-fits : (asked : ℕ) → windowOf asked ≤ mostLines
+window-fits asked = go (eqb asked 0) (ltb 64 asked) refl
+  where
+    go : (none many : Bool) → ltb 64 asked ≡ many → windowFor (cond (none || many) (Breaks BadLines) Passed) asked ≤ mostLines
+    go true many e = omega arith
+    go false true e = omega arith
+    go false false e = ltb-false 64 asked e
+
+module _ (asked : ℕ) (given : List Record) where
+  -- the run tracks the accepted events
+  pub tracked : Tracks (windowOf asked) (takenOf asked given) (runOf asked given)
+  tracked = tracks (windowOf asked) (window-fits asked) given
+
+  -- and answers a judge's questions as they do
+  pub viewed : ofRun (runOf asked given) ≡ ofHistory (windowOf asked) (takenOf asked given)
+  viewed = same-view (window-fits asked) tracked
+
+  pub same : answersOf asked given ≡ answers (windowOf asked) [] given
+  same = same-answers (windowOf asked) (window-fits asked) given
+
+  -- the accepted stores lie in the window
+  pub inside : Inside (windowOf asked) (takenOf asked given)
+  inside = taken-inside (accepted-taken (windowOf asked) [] given Taken.start)
+
+  -- an event is refused by a number or accepted
+  pub decided : (r : Record) → ((x : Refusal) × RefusedBy (windowOf asked) (takenOf asked given) r x) ⊎ Accepted (windowOf asked) (takenOf asked given) r
+  decided r = go (checked (limitsBy (ofHistory (windowOf asked) (takenOf asked given)) (r .event)))
+    where
+      go : {c : Check} → Checked (limitsBy (ofHistory (windowOf asked) (takenOf asked given)) (r .event)) c →
+          ((x : Refusal) × RefusedBy (windowOf asked) (takenOf asked given) r x) ⊎ Accepted (windowOf asked) (takenOf asked given) r
+      go (Checked.none k) = inr k
+      go (Checked.first {x = x} k) = inl (x, k)
+
+  -- a refused event leaves the run as it was
+  pub refused : (r : Record) {x : Refusal} → RefusedBy (windowOf asked) (takenOf asked given) r x →
+      giveOf (runOf asked given) r ≡ record { answer = Refused x; run = runOf asked given }
+  refused r {x} k = go (answered (windowOf asked) (takenOf asked given) (runOf asked given) r viewed)
+    where
+      go : Answered (windowOf asked) (takenOf asked given) (runOf asked given) r → giveOf (runOf asked given) r ≡ record { answer = Refused x; run = runOf asked given }
+      go (Answered.refused {x = y} a g) =
+          let number : x ≡ y = cc (answer-refused (windowOf asked) (takenOf asked given) r k) in
+          rw number g
+      go (Answered.found t a g) = let z : _≡_ {A = ℕ} 0 1 = cc (answer-refused (windowOf asked) (takenOf asked given) r k) in absurd (omega arith)
+
+  -- an accepted one gets the finding of the history
+  pub taken : (r : Record) → Accepted (windowOf asked) (takenOf asked given) r →
+      giveOf (runOf asked given) r .answer ≡ Found (findingBy (ofHistory (windowOf asked) (takenOf asked given)) (r .event))
+  taken r k = go (answered (windowOf asked) (takenOf asked given) (runOf asked given) r viewed)
+    where
+      go : Answered (windowOf asked) (takenOf asked given) (runOf asked given) r →
+          giveOf (runOf asked given) r .answer ≡ Found (findingBy (ofHistory (windowOf asked) (takenOf asked given)) (r .event))
+      go (Answered.refused a g) = let z : _≡_ {A = ℕ} 0 1 = cc (answer-found (windowOf asked) (takenOf asked given) r k) in absurd (omega arith)
+      go (Answered.found t a g) = rw g (sym a ∙ answer-found (windowOf asked) (takenOf asked given) r k)
+
+-- so "holds" is answered exactly when it is the finding
+pub holds-exactly : {P : Type 0} {a : Answer} {f : Finding} → a ≡ Found f → (f ≡ Holds) ↔ P → (a ≡ Found Holds) ↔ P
+holds-exactly e (to, from) = (λ k. to cc, λ p. e ∙ ap Found (from p))

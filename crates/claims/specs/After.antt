@@ -1,0 +1,23 @@
+-- Events given one after another, refused ones among them, from the run of a fresh window: the one asked for, or the one-line run
+-- that a refused fresh window hands over.
+use mathlib.Core.List.{List, []}
+use Prim.Native.Nat.{ℕ}
+use Rattle.event.specs.declared.Record.{Record}
+use Rattle.event.specs.declared.Answer.{Answer}
+use Rattle.history.specs.History.{History}
+use Rattle.history.specs.Given.{windowOf, accepted}
+use Rattle.tables.specs.declared.Run.{Run}
+use Rattle.engine.specs.Call.{freshOf}
+use Rattle.engine.specs.Given.{runAfter, outcomes}
+
+-- the run after them
+abbrev pub runOf : ℕ → List Record → Run
+runOf asked given = runAfter (freshOf asked .run) given
+
+-- the accepted ones
+abbrev pub takenOf : ℕ → List Record → History
+takenOf asked given = accepted (windowOf asked) [] given
+
+-- the answers that the run gave
+abbrev pub answersOf : ℕ → List Record → List Answer
+answersOf asked given = outcomes (freshOf asked .run) given

@@ -1,0 +1,42 @@
+-- Demand 1, for fresh windows, events, bytes asked and closings: whatever breaks a stated limit is refused by the first number that
+-- applies, and by no number otherwise; the run is then what it was.
+use mathlib.Core.Path.{_≡_}
+use mathlib.Core.Logic.{_≢_, _⊎_}
+use mathlib.Core.List.{List}
+use Prim.Native.Nat.{ℕ, _≤_, _<_}
+use Rattle.event.specs.declared.Record.{Record}
+use Rattle.event.specs.declared.Finding.{Finding}
+use Rattle.event.specs.declared.Refusal.{Refusal}
+use Rattle.event.specs.declared.Refusal.the-variants.{BadLines, PastWindow, TransactionOpen}
+use Rattle.event.specs.declared.Check.the-variants.{Passed, Refused as Breaks}
+use Rattle.event.specs.declared.Answer.the-variants.{Refused, Found}
+use Rattle.event.specs.Window.{mostLines, windowBytes}
+use Rattle.history.specs.Transaction.{depth}
+use Rattle.history.specs.Given.{windowOf, RefusedBy, Accepted}
+use Rattle.tables.specs.Give.{giveOf}
+use Rattle.engine.specs.declared.Asked.the-variants.{Refused as AskRefused}
+use Rattle.engine.specs.declared.Closing.the-variants.{Refused as CloseRefused}
+use Rattle.engine.specs.Call.{emptyRun, freshOf, askOf, closeOf}
+use Rattle.claims.specs.After.{runOf, takenOf}
+
+pub record Demand1 : Type 0 where
+  -- 4: lines outside 1 to 64; a run of one line is handed over
+  pub windowRefused : (asked : ℕ) → (asked ≡ 0) ⊎ (mostLines < asked) → freshOf asked ≡ record { check = Breaks BadLines; run = emptyRun 1 }
+  pub windowTaken : (asked : ℕ) → 1 ≤ asked → asked ≤ mostLines → freshOf asked ≡ record { check = Passed; run = emptyRun asked }
+  -- 8 to 12: the first that applies after the accepted events; the run is as it was
+  pub eventRefused : (asked : ℕ) (given : List Record) (r : Record) {x : Refusal} → RefusedBy (windowOf asked) (takenOf asked given) r x →
+      giveOf (runOf asked given) r ≡ record { answer = Refused x; run = runOf asked given }
+  pub eventTaken : (asked : ℕ) (given : List Record) (r : Record) → Accepted (windowOf asked) (takenOf asked given) r →
+      (f : Finding) × (giveOf (runOf asked given) r .answer ≡ Found f)
+  pub eventDecided : (asked : ℕ) (given : List Record) (r : Record) →
+      ((x : Refusal) × RefusedBy (windowOf asked) (takenOf asked given) r x) ⊎ Accepted (windowOf asked) (takenOf asked given) r
+  -- 9: an asked byte past the window
+  pub byteRefused : (asked : ℕ) (given : List Record) (byte : ℕ) → windowBytes (windowOf asked) ≤ byte →
+      askOf (runOf asked given) byte ≡ AskRefused PastWindow
+  pub byteTaken : (asked : ℕ) (given : List Record) (byte : ℕ) → byte < windowBytes (windowOf asked) →
+      askOf (runOf asked given) byte ≢ AskRefused PastWindow
+  -- 13: the run is closed with a transaction open
+  pub closingRefused : (asked : ℕ) (given : List Record) → depth (takenOf asked given) ≢ 0 →
+      closeOf (runOf asked given) ≡ CloseRefused TransactionOpen
+  pub closingTaken : (asked : ℕ) (given : List Record) → depth (takenOf asked given) ≡ 0 →
+      closeOf (runOf asked given) ≢ CloseRefused TransactionOpen

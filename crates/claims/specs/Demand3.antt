@@ -1,0 +1,50 @@
+-- Demand 3: the single claim over the whole list of given events. "Holds" is said exactly when no allowed crash image breaks the
+-- assertion, and a failure names a real crash image, the first by address.
+use mathlib.Core.Path.{_≡_}
+use mathlib.Core.Bool.{true}
+use mathlib.Core.Logic.{_↔_}
+use mathlib.Core.List.{List, [], _∷_}
+use Prim.Native.Nat.{ℕ, suc}
+use lib.ListN.{length}
+use Rattle.event.specs.declared.Range.{Range}
+use Rattle.event.specs.declared.Event.the-variants.{End, Persisted, Ordered}
+use Rattle.event.specs.declared.Record.{Record}
+use Rattle.event.specs.declared.Finding.the-variants.{Holds}
+use Rattle.event.specs.declared.Answer.{Answer}
+use Rattle.event.specs.declared.Answer.the-variants.{Found}
+use Rattle.event.specs.Window.{covers}
+use Rattle.history.specs.History.{stores, storesByte}
+use Rattle.history.specs.Interval.{epochAt}
+use Rattle.history.specs.Assertion.{BrokenByte, BrokenPair}
+use Rattle.history.specs.Transaction.{depth, Since}
+use Rattle.history.specs.Given.{windowOf, Accepted, ClaimRun}
+use Rattle.tables.specs.Give.{giveOf}
+use Rattle.engine.specs.declared.Closing.the-variants.{Totals}
+use Rattle.engine.specs.Call.{closeOf}
+use Rattle.engine.specs.Given.{reported}
+use Rattle.claims.specs.After.{runOf, takenOf, answersOf}
+
+pub record Demand3 : Type 0 where
+  -- the answers meet the claim: each event is refused by the first number that applies, or no number applies and its finding's
+  -- claim is true
+  pub claim : (asked : ℕ) (given : List Record) → ClaimRun (windowOf asked) [] given (answersOf asked given)
+  -- and no other answers do
+  pub only : (asked : ℕ) (given : List Record) (others : List Answer) → ClaimRun (windowOf asked) [] given others → others ≡ answersOf asked given
+  -- so an accepted persisted over A holds exactly when no byte of A is broken
+  pub persisted : (asked : ℕ) (given : List Record) (r : Record) {a : Range} →
+      Accepted (windowOf asked) (takenOf asked given) r → r .event ≡ Persisted a →
+      (giveOf (runOf asked given) r .answer ≡ Found Holds) ↔
+      ((b : ℕ) → BrokenByte (r ∷ takenOf asked given) (suc (length (takenOf asked given))) (λ b. covers a b ≡ true) b → ⊥)
+  -- an accepted ordered, exactly when no pair of a kept byte of B and a lost byte of A is broken
+  pub ordered : (asked : ℕ) (given : List Record) (r : Record) {a b : Range} →
+      Accepted (windowOf asked) (takenOf asked given) r → r .event ≡ Ordered a b →
+      (giveOf (runOf asked given) r .answer ≡ Found Holds) ↔
+      ((kept lost : ℕ) → BrokenPair (r ∷ takenOf asked given) (suc (length (takenOf asked given))) a b kept lost → ⊥)
+  -- an accepted outermost end with a store since its begin, exactly when no byte stored since its begin is broken
+  pub ends : (asked : ℕ) (given : List Record) (r : Record) →
+      Accepted (windowOf asked) (takenOf asked given) r → r .event ≡ End → depth (takenOf asked given) ≡ 1 → Since (takenOf asked given) stores →
+      (giveOf (runOf asked given) r .answer ≡ Found Holds) ↔
+      ((b : ℕ) → BrokenByte (r ∷ takenOf asked given) (suc (length (takenOf asked given))) (λ b. Since (takenOf asked given) (storesByte b)) b → ⊥)
+  -- the totals at closing: the accepted events, the fences among them, and the findings other than none
+  pub totals : (asked : ℕ) (given : List Record) → depth (takenOf asked given) ≡ 0 →
+      closeOf (runOf asked given) ≡ Totals (length (takenOf asked given)) (epochAt (takenOf asked given) (length (takenOf asked given))) (reported (answersOf asked given))

@@ -1,0 +1,2 @@
+-- Laws of the limits on an event.
+pub mod Joined  -- the two checks of the code are the check of all limits
