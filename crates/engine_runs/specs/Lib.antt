@@ -1,0 +1,2 @@
+-- What the calls of this program hand over.
+pub mod Runs

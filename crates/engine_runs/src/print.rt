@@ -1,0 +1,135 @@
+// The line of each call, on standard output.
+use engine::Asked;
+use engine::Closing;
+use event::Answer;
+use event::Check;
+use event::Event;
+use event::Finding;
+use event::Interval;
+use event::Range;
+use event::Refusal;
+use event::numbers;
+use libc::STDOUT_FILENO;
+
+// The words as they are.
+fn words(text: &[u8]) {
+    io::write_all(STDOUT_FILENO, text);
+}
+
+// The words, and a number after them.
+fn field(text: &[u8], n: u16) {
+    words(text);
+    io::print_decimal(STDOUT_FILENO, n as u64);
+}
+
+// The words, and a range after them: `store 0/8`.
+fn range(text: &[u8], r: Range) {
+    field(text, r.address);
+    field(b"/", r.length);
+}
+
+// The words that name an event.
+fn event(e: Event) {
+    match e {
+        Event::Store(a) => range(b"store ", a),
+        Event::WriteBack(a) => range(b"write-back ", a),
+        Event::Fence => words(b"fence"),
+        Event::Begin => words(b"begin"),
+        Event::Log(a) => range(b"log ", a),
+        Event::End => words(b"end"),
+        Event::Persisted(a) => range(b"persisted ", a),
+        Event::Ordered(a, b) => {
+            range(b"ordered ", a);
+            range(b" before ", b);
+        }
+    }
+}
+
+// A refusal by its number, which ends a line.
+fn refused(x: Refusal) {
+    field(b"refused ", numbers::number(x) as u16);
+    words(b"\n");
+}
+
+// A finding by its numbers, which end a line.
+fn finding(f: Finding) {
+    let x = numbers::fields(f);
+    if x.kind == 0 {
+        words(b"none\n");
+        return;
+    }
+    field(b"finding ", x.kind as u16);
+    field(b" lost ", x.lost);
+    field(b" kept ", x.kept);
+    field(b" moment ", x.moment);
+    field(b" store ", x.store);
+    words(b"\n");
+}
+
+// The line before the calls of a run.
+pub fn heading(text: &[u8]) {
+    words(b"run: ");
+    words(text);
+    words(b"\n");
+}
+
+// An event given, and its answer.
+pub fn given(e: Event, a: Answer) {
+    event(e);
+    words(b": ");
+    match a {
+        Answer::Refused(x) => refused(x),
+        Answer::Found(f) => finding(f),
+    }
+}
+
+// A fresh window of so many lines, and what the check says.
+pub fn fresh(lines: u16, c: Check) {
+    field(b"fresh ", lines);
+    words(b": ");
+    match c {
+        Check::Passed => words(b"taken\n"),
+        Check::Refused(x) => refused(x),
+    }
+}
+
+// An interval by its epochs, which end a line.
+fn interval(i: Interval) {
+    match i {
+        Interval::None => words(b"none"),
+        Interval::Open(e) => field(b"open since ", e),
+        Interval::Closed(e, f) => {
+            field(b"closed ", e);
+            field(b" to ", f);
+        }
+    }
+    words(b"\n");
+}
+
+// A byte asked, and its interval.
+pub fn asked(byte: u16, a: Asked) {
+    field(b"ask ", byte);
+    words(b": ");
+    match a {
+        Asked::Refused(x) => refused(x),
+        Asked::Known(i) => interval(i),
+    }
+}
+
+// A closing, and its totals.
+pub fn closed(c: Closing) {
+    words(b"close: ");
+    match c {
+        Closing::Refused(x) => refused(x),
+        Closing::Totals {
+            events,
+            fences,
+            findings,
+        } => {
+            field(b"events ", events);
+            field(b" fences ", fences);
+            field(b" findings ", findings);
+            words(b"\n");
+        }
+    }
+}
