@@ -2,9 +2,7 @@
 mod calls; // the calls of the engine, printed
 mod limits; // runs at the limits of the window and of the state
 mod print; // the line of each call
-mod small; // the starred small runs
 
 fn main() {
-    small::all();
     limits::all();
 }

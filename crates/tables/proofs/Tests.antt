@@ -17,13 +17,14 @@ use Rattle.tables.specs.declared.Counts.{Counts}
 use Rattle.tables.specs.declared.Run.{Run}
 use Rattle.tables.specs.Table.{entry, changed}
 use Rattle.tables.specs.View.{runOf, noCounts, intervalFrom, ofRun}
-use Rattle.tables.specs.Tests.{markedSince, openSince, wastedLine, brokenPair, isOpenSince, isBroken, durableFrom, endedFrom, fenced}
+use Rattle.tables.specs.declared.Test.the-variants.{NotSince, OpenSince, Wasted}
+use Rattle.tables.specs.Tests.{passesBy, passing, brokenPair, isBroken, durableFrom, endedFrom, fenced}
 use Rattle.tables.specs.Next.{closes}
 use Rattle.tables.proofs.Table.{changed-same}
 use Rattle.tables.proofs.Searched.{lowest-never}
 
 -- an interval is open after a store that no fence has closed
-open-test : (s o k : ℕ) → isOpen (intervalFrom s o k) ≡ isOpenSince 0 s k
+open-test : (s o k : ℕ) → isOpen (intervalFrom s o k) ≡ passesBy (OpenSince 0) s k
 open-test zero o k = refl
 open-test (suc s) o zero = rw (lt-ltb 0 (suc s) (omega arith))
 open-test (suc s) o (suc k) = rw (lt-ltb 0 (suc s) (omega arith), ne-eqb (suc k) 0 (λ e. absurd (omega arith)))
@@ -60,20 +61,20 @@ module _ (counts : Counts) (logged : List ℕ) (a : Range) where
 
   -- inside one it goes by the logs
   pub store-inside : counts .depth ≢ 0 →
-      foundOr (lowestIn (markedSince false (counts .begin) logged) a) None Unlogged ≡ findingBy (ofRun (runOf counts [] logged [] [] [] [])) (Store a)
+      foundOr (lowestIn (passing (NotSince (counts .begin)) logged logged) a) None Unlogged ≡ findingBy (ofRun (runOf counts [] logged [] [] [] [])) (Store a)
   unfolding findingBy
   store-inside z =
-      let same : unlogged (ofRun (runOf counts [] logged [] [] [] [])) ≡ markedSince false (counts .begin) logged = fun-ext (λ b. rw (ne-eqb (counts .depth) 0 z)) in
+      let same : unlogged (ofRun (runOf counts [] logged [] [] [] [])) ≡ passing (NotSince (counts .begin)) logged logged = fun-ext (λ b. rw (ne-eqb (counts .depth) 0 z)) in
       rw same
 
 module _ (run : Run) where
   -- a write-back goes by the last store and the last write-back of each line
   pub back-found : (a : Range) →
       findingBy (ofRun run) (WriteBack a) ≡
-      foundOr (lowest (wastedLine (run .written) (run .backed)) (lineOf (a .address)) (lineCount a)) None (warnedLine (ofRun run))
+      foundOr (lowest (passing Wasted (run .written) (run .backed)) (lineOf (a .address)) (lineCount a)) None (warnedLine (ofRun run))
   unfolding findingBy
   back-found a =
-      let same : (λ l. clean (ofRun run) l || writtenTwice (ofRun run) l) ≡ wastedLine (run .written) (run .backed) =
+      let same : (λ l. clean (ofRun run) l || writtenTwice (ofRun run) l) ≡ passing Wasted (run .written) (run .backed) =
       fun-ext (λ l. wasted (eqb (entry (run .written) l) 0) (ltb (entry (run .written) l) (entry (run .backed) l))) in
       rw same
     where
@@ -82,7 +83,7 @@ module _ (run : Run) where
       wasted false t = refl
 
   -- a byte is at risk after a store that no fence has closed
-  at-risk : (b : ℕ) → atRisk (ofRun run) b ≡ openSince 0 (run .stored) (run .closed) b
+  at-risk : (b : ℕ) → atRisk (ofRun run) b ≡ passing (OpenSince 0) (run .stored) (run .closed) b
   at-risk b = open-test (entry (run .stored) b) (entry (run .opened) b) (entry (run .closed) b)
 
   -- a persisted goes by its bytes' last stores and closing epochs
@@ -90,14 +91,14 @@ module _ (run : Run) where
       findingBy (ofRun run) (Persisted a) ≡ durableFrom (run .counts) (run .stored) (run .closed) 0 (a .address) (a .length)
   unfolding findingBy
   persisted-found a =
-      let same : atRisk (ofRun run) ≡ openSince 0 (run .stored) (run .closed) = fun-ext at-risk in
+      let same : atRisk (ofRun run) ≡ passing (OpenSince 0) (run .stored) (run .closed) = fun-ext at-risk in
       rw same
 
   -- an end likewise, over the bytes stored to since the begin
   pub end-found : findingBy (ofRun run) End ≡ endedFrom (run .counts) (run .stored) (run .closed)
   unfolding findingBy
   end-found =
-      let same : (λ b. storedSince (ofRun run) b && atRisk (ofRun run) b) ≡ openSince (run .counts .begin) (run .stored) (run .closed) =
+      let same : (λ b. storedSince (ofRun run) b && atRisk (ofRun run) b) ≡ passing (OpenSince (run .counts .begin)) (run .stored) (run .closed) =
       fun-ext (λ b. rw (at-risk b) (later (run .counts .begin) (entry (run .stored) b) (eqb (entry (run .closed) b) 0))) in
       rw same
     where

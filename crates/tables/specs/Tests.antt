@@ -9,6 +9,8 @@ use Rattle.event.specs.declared.Finding.the-variants.{None, Empty}
 use Rattle.event.specs.Window.{windowBytes, lineOf}
 use Rattle.history.specs.Found.{Pair, lowest, durable}
 use Rattle.tables.specs.declared.Counts.{Counts}
+use Rattle.tables.specs.declared.Test.{Test}
+use Rattle.tables.specs.declared.Test.the-variants.{Since, NotSince, OpenSince, Wasted}
 use Rattle.tables.specs.declared.Search.{Search}
 use Rattle.tables.specs.declared.Search.the-variants.{Nothing, At}
 use Rattle.tables.specs.declared.PairSearch.{PairSearch}
@@ -25,27 +27,23 @@ unfoldable pub pairSearched : Option Pair → PairSearch
 pairSearched none = NoPair
 pairSearched (some p) = AtPair (p .kept) (p .lost)
 
--- event number n is after the begin, or is not
-abbrev pub isSince : Bool → ℕ → ℕ → Bool
-isSince wanted begin n = cond wanted (ltb begin n) (not (ltb begin n))
+-- the entries of a byte or a line in two tables are what the test looks for: an event after this one in the first; none after it;
+-- a store after it, and no closing epoch in the second; no store in the first, or none since the last write-back in the second
+abbrev pub passesBy : Test → ℕ → ℕ → Bool
+passesBy (Since n) x y = ltb n x
+passesBy (NotSince n) x y = not (ltb n x)
+passesBy (OpenSince n) x y = ltb n x && eqb y 0
+passesBy Wasted x y = eqb x 0 || ltb x y
 
--- the byte's entry is so
-abbrev pub markedSince : Bool → ℕ → List ℕ → ℕ → Bool
-markedSince wanted begin marks b = isSince wanted begin (entry marks b)
+-- the byte or line is so
+abbrev pub passing : Test → (xs ys : List ℕ) → ℕ → Bool
+passing test xs ys b = passesBy test (entry xs b) (entry ys b)
 
--- stored to after the begin, and not closed
-abbrev pub isOpenSince : ℕ → ℕ → ℕ → Bool
-isOpenSince begin store closed = ltb begin store && eqb closed 0
-
--- the byte is so
-abbrev pub openSince : ℕ → (stored closed : List ℕ) → ℕ → Bool
-openSince begin stored closed b = isOpenSince begin (entry stored b) (entry closed b)
-
--- holds, or lost at the lowest such byte of the n bytes from a place on
+-- holds, or lost at the lowest of the n bytes from a place on that was stored to after the begin and is not closed
 abbrev pub durableFrom : Counts → (stored closed : List ℕ) → (begin at n : ℕ) → Finding
 durableFrom counts stored closed begin at n =
     durable (ofRun (runOf counts stored [] [] closed [] []))
-    (lowest (openSince begin stored closed) at n)
+    (lowest (passing (OpenSince begin) stored closed) at n)
 
 -- an end: none if it is an inner one; else empty, or as a persisted over the bytes stored since the begin
 abbrev pub endedFrom : Counts → (stored closed : List ℕ) → Finding
@@ -55,14 +53,6 @@ endedFrom counts stored closed =
     (durableFrom counts stored closed (counts .begin) 0 (windowBytes (linesOf counts)))
     Empty)
     None
-
--- a line not stored to, or not since its last write-back
-abbrev pub isWasted : ℕ → ℕ → Bool
-isWasted store back = eqb store 0 || ltb store back
-
--- the line is so
-abbrev pub wastedLine : (written backed : List ℕ) → ℕ → Bool
-wastedLine written backed l = isWasted (entry written l) (entry backed l)
 
 -- a crash may keep the first byte and lose the second: by their last stores, whether one line has both, the epoch at which the
 -- kept byte's interval opened, and that at which the lost byte's closed

@@ -2,6 +2,7 @@
 use crate::Counts;
 use crate::PairSearch;
 use crate::Search;
+use crate::Test;
 use crate::searches;
 use event::Event;
 use event::Finding;
@@ -25,7 +26,9 @@ fn of_store(counts: Counts, logged: &[u16; 4096], a: Range) -> Finding
     if counts.depth == 0 {
         return Finding::None;
     }
-    match searches::first_since(logged, false, counts.begin, a) {
+    let at = a.address as usize;
+    let n = a.length as usize;
+    match searches::first(Test::NotSince(counts.begin), logged, logged, at, n) {
         Search::Nothing => Finding::None,
         Search::At(b) => Finding::Unlogged { lost: b },
     }
@@ -38,7 +41,7 @@ fn of_back(written: &[u16; 64], backed: &[u16; 64], a: Range) -> Finding
 {
     let at = window::line_of(a.address) as usize;
     let n = window::line_count(a) as usize;
-    match searches::first_wasted(written, backed, at, n) {
+    match searches::first(Test::Wasted, written, backed, at, n) {
         Search::Nothing => Finding::None,
         Search::At(l) => {
             let lost = window::line_start(l);
@@ -57,7 +60,9 @@ fn of_log(counts: Counts, logged: &[u16; 4096], a: Range) -> Finding
     requires { ⌜ rangeEnd a ≤ 4096 ⌝ }
     ensures { λ r. ⌜ r ≡ findingBy (ofRun (runOf counts [] (now (logged .entry)) [] [] [] [])) (Event.Log a) ⌝ }
 {
-    match searches::first_since(logged, true, counts.begin, a) {
+    let at = a.address as usize;
+    let n = a.length as usize;
+    match searches::first(Test::Since(counts.begin), logged, logged, at, n) {
         Search::Nothing => Finding::None,
         Search::At(b) => Finding::LoggedTwice { lost: b },
     }
@@ -75,7 +80,7 @@ fn durable(
     requires { ⌜ (counts .events < 65535) × (at + n ≤ 4096) ⌝ }
     ensures { λ r. ⌜ r ≡ durableFrom counts (now (stored .entry)) (now (closed .entry)) begin at n ⌝ }
 {
-    match searches::first_open(stored, closed, begin, at, n) {
+    match searches::first(Test::OpenSince(begin), stored, closed, at, n) {
         Search::Nothing => Finding::Holds,
         Search::At(b) => {
             let i = b as usize;
@@ -140,7 +145,7 @@ fn of_ordered(
 }
 
 // The finding of an event that no limit refuses.
-pub fn finding_of(
+pub(crate) fn finding_of(
     counts: Counts,
     stored: &[u16; 4096],
     logged: &[u16; 4096],

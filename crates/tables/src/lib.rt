@@ -46,7 +46,15 @@ pub struct Stepped {
     pub counts: Counts,
 }
 
-// What a search over bytes or lines found.
+// What a search over bytes or lines looks for, in the entries of two tables.
+pub enum Test {
+    Since(u16), // an event after this one
+    NotSince(u16), // none after it
+    OpenSince(u16), // a store after it, and no closing epoch
+    Wasted, // no store, or none since the last write-back
+}
+
+// What it found.
 pub enum Search {
     Nothing,
     At(u16),

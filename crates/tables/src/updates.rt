@@ -28,7 +28,7 @@ fn findings_after(n: u16, f: Finding) -> u16
 }
 
 // The numbers after an event that got this finding.
-pub fn counts_after(counts: Counts, e: Event, f: Finding) -> Counts
+pub(crate) fn counts_after(counts: Counts, e: Event, f: Finding) -> Counts
     requires { ⌜ refusalBy (limitsOf counts) e ≡ Passed ⌝ }
     ensures { λ r. ⌜ r ≡ countsAfter counts e f ⌝ }
 {
@@ -91,7 +91,7 @@ fn store(
 }
 
 // The tables after an event that no limit refuses.
-pub fn update(
+pub(crate) fn update(
     counts: Counts,
     stored: &mut [u16; 4096],
     logged: &mut [u16; 4096],

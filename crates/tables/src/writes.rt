@@ -21,7 +21,7 @@ fn fill(xs: &mut [u16], at: usize, n: usize, x: u16)
 }
 
 // The entries of a range's bytes become x.
-pub fn fill_bytes(xs: &mut [u16; 4096], a: Range, x: u16)
+pub(crate) fn fill_bytes(xs: &mut [u16; 4096], a: Range, x: u16)
     requires { ⌜ rangeEnd a ≤ 4096 ⌝ }
     ensures { λ _. ⌜ now (xs .exit) ≡ filledBytes x a (now (xs .entry)) ⌝ }
 {
@@ -31,7 +31,7 @@ pub fn fill_bytes(xs: &mut [u16; 4096], a: Range, x: u16)
 }
 
 // The entries of the lines that a range touches become x.
-pub fn fill_lines(xs: &mut [u16; 64], a: Range, x: u16)
+pub(crate) fn fill_lines(xs: &mut [u16; 64], a: Range, x: u16)
     requires { ⌜ rangeEnd a ≤ 4096 ⌝ }
     ensures { λ _. ⌜ now (xs .exit) ≡ filledLines x a (now (xs .entry)) ⌝ }
 {
@@ -67,7 +67,7 @@ fn close_line(closed: &mut [u16; 4096], stored: &[u16; 4096], at: usize, back: u
 }
 
 // The bytes of the window after the fence: of each line that was written back since the last fence.
-pub fn close_lines(
+pub(crate) fn close_lines(
     closed: &mut [u16; 4096],
     stored: &[u16; 4096],
     backed: &[u16; 64],

@@ -8,25 +8,28 @@ use borrow.Author.Needs.{needs}
 use borrow.Author.Tests.{eq-eqb, ne-eqb}
 use Rattle.event.specs.Window.{lineOf, lineCount}
 use Rattle.history.specs.Found.{lowest}
+use Rattle.tables.specs.declared.Test.the-variants.{Wasted}
 use Rattle.tables.specs.View.{runOf, noCounts}
-use Rattle.tables.specs.Tests.{wastedLine}
+use Rattle.tables.specs.Tests.{searched, passing}
 use Rattle.tables.proofs.Tests.{back-found}
 use Rattle.tables.proofs.Searched.{found-none, found-some, lowest-below}
 use Rattle.tables.proofs.Lines.{lines-inside}
 use Rattle.tables.proofs.findings.of_back.Statement.{statement}
 use Rattle.tables.proofs.findings.of_back.Tie as tie
 
+-- what the search answered, over the lines of the range
+by-lines : (c : tie.After-first) → let a = c .before .before .before .before .before .args in
+    c .first .result ≡ searched (lowest (passing Wasted (a .written .now) (a .backed .now)) (lineOf (a .a .address)) (lineCount (a .a)))
+by-lines c = let l = c .before .before .before in rw (l .before .line-of .ensures, l .line-count .ensures) at (c .first .ensures)
+
 -- the function's entry, from where the line that was found is bound
 abbrev start : tie.After-l → tie.Start
-start c = c .before .before .before .before .before
+start c = c .before .before .before .before .before .before .before
 
--- that line is what the search over the lines of the range finds
-at-line : (c : tie.After-l) →
-    lowest (wastedLine (start c .args .written .now) (start c .args .backed .now)) (lineOf (start c .args .a .address)) (lineCount (start c .args .a)) ≡
-    some (c .l .given .0 .0)
-at-line c =
-    let w = c .before .before in
-    found-some _ (c .l .given .1) (rw (w .before .before .line-of .ensures, w .before .line-count .ensures) at (w .first-wasted .ensures))
+-- that line is what the search finds
+at-line : (c : tie.After-l) → let a = start c .args in
+    lowest (passing Wasted (a .written .now) (a .backed .now)) (lineOf (a .a .address)) (lineCount (a .a)) ≡ some (c .l .given .0 .0)
+at-line c = found-some _ (c .l .given .1) (by-lines (c .before .before))
 
 line-of-requires : tie.Need-line-of-requires
 line-of-requires c κs = search needs
@@ -40,8 +43,8 @@ line-count-requires c κs = search needs
 cast-n : tie.Need-cast-n
 cast-n c = search needs
 
-first-wasted-requires : tie.Need-first-wasted-requires
-first-wasted-requires c κs = let k = c .before .before in let inside = lines-inside (k .args .a) (k .pre) in omega (arith, c .before .line-of .ensures, c .line-count .ensures)
+first-requires : tie.Need-first-requires
+first-requires c κs = let k = c .before .before .before .before in let inside = lines-inside (k .args .a) (k .pre) in omega (arith, c .before .before .before .line-of .ensures, c .before .before .line-count .ensures)
 
 enum-told : tie.Need-enum-told
 enum-told c = search needs
@@ -62,7 +65,7 @@ element-copy-out-if1 : tie.Need-element-copy-out-if1
 element-copy-out-if1 c = let k = start (c .before .before) in omega (arith, lowest-below _ _ _ (at-line (c .before .before)), lines-inside (k .args .a) (k .pre))
 
 returns : tie.Need-returns
-returns c = let w = c .before .before in let k = w .before .before .before .args in rw (back-found (runOf (noCounts 0) [] [] [] [] (k .written .now) (k .backed .now)) (k .a), found-none _ (c .enum-told .given .1) (rw (w .before .before .line-of .ensures, w .before .line-count .ensures) at (w .first-wasted .ensures)))
+returns c = let w = c .before .before in let k = w .before .before .before .before .before .args in rw (back-found (runOf (noCounts 0) [] [] [] [] (k .written .now) (k .backed .now)) (k .a), found-none _ (c .enum-told .given .1) (by-lines w))
 
 returns-2 : tie.Need-returns-2
 returns-2 c = let w = c .before .before in let k = start (w .before .before) .args in rw (back-found (runOf (noCounts 0) [] [] [] [] (k .written .now) (k .backed .now)) (k .a), at-line (w .before .before), w .line-start .ensures, eq-eqb _ 0 (c .if1 .taken))
@@ -78,7 +81,7 @@ of-back-spec =
     cast-at
     line-count-requires
     cast-n
-    first-wasted-requires
+    first-requires
     enum-told
     enum-known-l
     line-start-requires

@@ -6,8 +6,14 @@ use Rattle.tables.proofs.Searched.{found-none, found-some}
 use Rattle.tables.proofs.findings.of_log.Statement.{statement}
 use Rattle.tables.proofs.findings.of_log.Tie as tie
 
-first-since-requires : tie.Need-first-since-requires
-first-since-requires c κs = search needs
+cast-at : tie.Need-cast-at
+cast-at c = search needs
+
+cast-n : tie.Need-cast-n
+cast-n c = search needs
+
+first-requires : tie.Need-first-requires
+first-requires c κs = search needs
 
 enum-told : tie.Need-enum-told
 enum-told c = search needs
@@ -17,11 +23,12 @@ enum-known-b c = search needs
 
 returns : tie.Need-returns
 unfolding findingBy
-returns c = rw (found-none _ (c .enum-told .given .1) (c .before .before .first-since .ensures))
+returns c = rw (found-none _ (c .enum-told .given .1) (c .before .before .first .ensures))
 
 returns-2 : tie.Need-returns-2
 unfolding findingBy
-returns-2 c = rw (found-some _ (c .before .b .given .1) (c .before .before .before .first-since .ensures))
+returns-2 c = rw (found-some _ (c .before .b .given .1) (c .before .before .before .first .ensures))
 
 pub of-log-spec : {M : Type 1} → statement M
-of-log-spec = tie.close (tie.spec first-since-requires enum-told enum-known-b returns returns-2)
+of-log-spec =
+    tie.close (tie.spec cast-at cast-n first-requires enum-told enum-known-b returns returns-2)
