@@ -2,29 +2,22 @@
 use mathlib.Core.Path.{_≡_, refl}
 use mathlib.Core.Bool.{Bool, true, false, cond, not, _&&_, _||_}
 use mathlib.Core.Logic.{⊎-elim}
-use Prim.Native.Nat.{ℕ, suc, _<_}
-use native.Mathlib.Omega.{arith}
-use lib.Dec.{eqb}
-use borrow.Author.Tests.{eqb-true, ne-eqb}
+use Prim.Native.Nat.{ℕ, suc}
 use Rattle.event.specs.declared.Event.{Event}
 use Rattle.event.specs.declared.Interval.the-variants.{Open}
-use Rattle.event.specs.Numbers.{kindOf}
 use Rattle.event.specs.Window.{lineOf}
-use Rattle.event.proofs.Bools.{and-left, or-cases}
-use Rattle.history.specs.History.{stores, writesBack, fences, coversByte, touchesLine, storesByte, writesBackLine}
+use Rattle.event.proofs.Bools.{fails, or-cases}
+use Rattle.history.specs.History.{fences, storesByte, writesBackLine}
 use Rattle.history.specs.Found.{isOpen}
+use Rattle.engine.proofs.ClosingFence.{back-no-fence}
+use Rattle.engine.proofs.NextEpochs.{store-no-fence}
 use Rattle.claims.specs.Paper.{Status, write, clwb, sfence, updated}
 use Rattle.claims.proofs.Ends.{ended, endsIf}
 
 -- a store or a write-back is no fence
 pub no-fence : (b l : ℕ) (e : Event) → storesByte b e || writesBackLine l e ≡ true → fences e ≡ false
 no-fence b l e t =
-    ⊎-elim (λ k. lower 1 (omega arith) (and-left (stores e) (coversByte b e) k))
-    (λ k. lower 2 (omega arith) (and-left (writesBack e) (touchesLine l e) k))
-    (or-cases (storesByte b e) (writesBackLine l e) t)
-  where
-    lower : (n : ℕ) → n < 3 → eqb (kindOf e) n ≡ true → fences e ≡ false
-    lower n l k = ne-eqb (kindOf e) 3 (λ z. omega (arith, eqb-true (kindOf e) n k))
+    ⊎-elim (store-no-fence b e) (λ k. fails (fences e) (back-no-fence l e k)) (or-cases (storesByte b e) (writesBackLine l e) t)
 
 -- the status after an event that stores the byte, or writes its line back, or is a fence, or is none of these
 abbrev ruled : Bool → Bool → Bool → Status → Status

@@ -24,7 +24,7 @@ abbrev pub lastBack : History → ℕ → ℕ
 lastBack h l = last (is (writesBackLine l) h) (length h)
 
 -- a write-back is no fence
-back-no-fence : (l : ℕ) (e : Event) → writesBackLine l e ≡ true → fences e ≡ true → ⊥
+pub back-no-fence : (l : ℕ) (e : Event) → writesBackLine l e ≡ true → fences e ≡ true → ⊥
 back-no-fence l e s t = omega (arith, eqb-true (kindOf e) 2 (and-left (writesBack e) (touchesLine l e) s), eqb-true (kindOf e) 3 t)
 
 module _ (h : History) (l s : ℕ) where

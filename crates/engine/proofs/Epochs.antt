@@ -64,9 +64,13 @@ module _ (h : History) (b : ℕ) where
           rw (interval-closed h b s f)
           (stored s ∙ if-some (closedAt h b) (Open opened) (Closed opened) (closed-later s f) ∙ (rw (closed-stored s)))
 
-  -- a fence closes the byte: its interval is open, and its line was written back since its last store and since the last fence
+  -- the byte's line was written back since its last store and since the last fence
+  abbrev pub backed : Bool
+  backed = ltb (lastStore h b) (lastBack h (lineOf b)) && ltb (last (is fences h) (length h)) (lastBack h (lineOf b))
+
+  -- a fence closes the byte: its interval is open, and its line was written back since both
   abbrev pub closing : Bool
-  closing = isOpen (intervalOf h b) && ltb (lastStore h b) (lastBack h (lineOf b)) && ltb (last (is fences h) (length h)) (lastBack h (lineOf b))
+  closing = isOpen (intervalOf h b) && backed
 
   -- where the interval is open, the write-back since the last store decides
   pub closing-open : lastStore h b ≢ 0 → fence ≡ 0 → closing ≡ ltb (lastStore h b) (lastBack h (lineOf b))

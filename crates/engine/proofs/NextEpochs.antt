@@ -26,7 +26,7 @@ use Rattle.engine.proofs.NextFence.{closing-kept, closing-next}
 use Rattle.engine.proofs.Epochs.{fence, closed-stored, closed-zero, closing, closing-open, closing-unstored, closing-closed}
 
 -- a store is no fence
-store-no-fence : (b : ℕ) (e : Event) → storesByte b e ≡ true → fences e ≡ false
+pub store-no-fence : (b : ℕ) (e : Event) → storesByte b e ≡ true → fences e ≡ false
 store-no-fence b e t = fails (fences e) (λ f. omega (arith, eqb-true (kindOf e) 1 (and-left (stores e) (coversByte b e) t), eqb-true (kindOf e) 3 f))
 
 module _ (r : Record) (h : History) (b : ℕ) where

@@ -1,6 +1,6 @@
 -- A run that tracks a history tracks it with one more accepted event.
 use mathlib.Core.Path.{_≡_, ap, ap₂, _∙_}
-use mathlib.Core.Bool.{Bool, true, false, cond, _&&_}
+use mathlib.Core.Bool.{Bool, true, false, cond, _&&_, and-assoc}
 use mathlib.Core.List.{_∷_}
 use Prim.Native.Nat.{ℕ, suc, _+_, _≤_}
 use native.Mathlib.Omega.{arith}
@@ -12,7 +12,7 @@ use Rattle.event.specs.declared.Finding.{Finding}
 use Rattle.event.specs.declared.Answer.the-variants.{Found}
 use Rattle.event.specs.Window.{mostLines, windowBytes, lineOf}
 use Rattle.history.specs.History.{History, is, stores, fences, storesLine, writesBackLine, logsByte}
-use Rattle.history.specs.Interval.{epochAt, lastStore}
+use Rattle.history.specs.Interval.{epochAt, lastStore, intervalOf}
 use Rattle.history.specs.Transaction.{depth, depthAfter, outermost}
 use Rattle.history.specs.View.{View, ofHistory}
 use Rattle.history.specs.Found.{isOpen}
@@ -53,7 +53,7 @@ module _ (lines : ℕ) (m : lines ≤ mostLines) (h : History) (run : Run) (k : 
   closes-same : (b : ℕ) → closes run b ≡ closing h b
   closes-same b =
       ap₂ (λ (v : View) (fence : ℕ). isOpen (v .interval b) && ltb (v .lastStore b) (v .lineBack (lineOf b)) && ltb fence (v .lineBack (lineOf b)))
-      same (k .tracks .latestFence)
+      same (k .tracks .latestFence) ∙ and-assoc (isOpen (intervalOf h b)) _ _
 
   -- and none beyond the window
   none-beyond : (b : ℕ) → windowBytes (linesOf (run .counts)) ≤ b → closes run b ≡ false
