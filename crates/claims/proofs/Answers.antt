@@ -30,7 +30,7 @@ use Rattle.engine.specs.Tracks.{Tracks}
 use Rattle.engine.proofs.Histories.{taken-inside}
 use Rattle.engine.proofs.Answered.{Answered, answered}
 use Rattle.engine.proofs.Link.{same-view, tracks, same-answers}
-use Rattle.claims.specs.After.{runOf, takenOf, answersOf}
+use Rattle.claims.specs.After.{runFrom, takenFrom, answersFrom}
 
 -- a window has at most 64 lines
 pub window-fits : (asked : ℕ) → windowOf asked ≤ mostLines
@@ -43,49 +43,49 @@ window-fits asked = go (eqb asked 0) (ltb 64 asked) refl
 
 module _ (asked : ℕ) (given : List Record) where
   -- the run tracks the accepted events
-  pub tracked : Tracks (windowOf asked) (takenOf asked given) (runOf asked given)
+  pub tracked : Tracks (windowOf asked) (takenFrom asked given) (runFrom asked given)
   tracked = tracks (windowOf asked) (window-fits asked) given
 
   -- and answers a judge's questions as they do
-  pub viewed : ofRun (runOf asked given) ≡ ofHistory (windowOf asked) (takenOf asked given)
+  pub viewed : ofRun (runFrom asked given) ≡ ofHistory (windowOf asked) (takenFrom asked given)
   viewed = same-view (window-fits asked) tracked
 
-  pub same : answersOf asked given ≡ answers (windowOf asked) [] given
+  pub same : answersFrom asked given ≡ answers (windowOf asked) [] given
   same = same-answers (windowOf asked) (window-fits asked) given
 
   -- the accepted stores lie in the window
-  pub inside : Inside (windowOf asked) (takenOf asked given)
+  pub inside : Inside (windowOf asked) (takenFrom asked given)
   inside = taken-inside (accepted-taken (windowOf asked) [] given Taken.start)
 
   -- an event is refused by a number or accepted
-  pub decided : (r : Record) → ((x : Refusal) × RefusedBy (windowOf asked) (takenOf asked given) r x) ⊎ Accepted (windowOf asked) (takenOf asked given) r
-  decided r = go (checked (limitsBy (ofHistory (windowOf asked) (takenOf asked given)) (r .event)))
+  pub decided : (r : Record) → ((x : Refusal) × RefusedBy (windowOf asked) (takenFrom asked given) r x) ⊎ Accepted (windowOf asked) (takenFrom asked given) r
+  decided r = go (checked (limitsBy (ofHistory (windowOf asked) (takenFrom asked given)) (r .event)))
     where
-      go : {c : Check} → Checked (limitsBy (ofHistory (windowOf asked) (takenOf asked given)) (r .event)) c →
-          ((x : Refusal) × RefusedBy (windowOf asked) (takenOf asked given) r x) ⊎ Accepted (windowOf asked) (takenOf asked given) r
+      go : {c : Check} → Checked (limitsBy (ofHistory (windowOf asked) (takenFrom asked given)) (r .event)) c →
+          ((x : Refusal) × RefusedBy (windowOf asked) (takenFrom asked given) r x) ⊎ Accepted (windowOf asked) (takenFrom asked given) r
       go (Checked.none k) = inr k
       go (Checked.first {x = x} k) = inl (x, k)
 
   -- a refused event leaves the run as it was
-  pub refused : (r : Record) {x : Refusal} → RefusedBy (windowOf asked) (takenOf asked given) r x →
-      giveOf (runOf asked given) r ≡ record { answer = Refused x; run = runOf asked given }
-  refused r {x} k = go (answered (windowOf asked) (takenOf asked given) (runOf asked given) r viewed)
+  pub refused : (r : Record) {x : Refusal} → RefusedBy (windowOf asked) (takenFrom asked given) r x →
+      giveOf (runFrom asked given) r ≡ record { answer = Refused x; run = runFrom asked given }
+  refused r {x} k = go (answered (windowOf asked) (takenFrom asked given) (runFrom asked given) r viewed)
     where
-      go : Answered (windowOf asked) (takenOf asked given) (runOf asked given) r → giveOf (runOf asked given) r ≡ record { answer = Refused x; run = runOf asked given }
+      go : Answered (windowOf asked) (takenFrom asked given) (runFrom asked given) r → giveOf (runFrom asked given) r ≡ record { answer = Refused x; run = runFrom asked given }
       go (Answered.refused {x = y} a g) =
-          let number : x ≡ y = cc (answer-refused (windowOf asked) (takenOf asked given) r k) in
+          let number : x ≡ y = cc (answer-refused (windowOf asked) (takenFrom asked given) r k) in
           rw number g
-      go (Answered.found t a g) = let z : _≡_ {A = ℕ} 0 1 = cc (answer-refused (windowOf asked) (takenOf asked given) r k) in absurd (omega arith)
+      go (Answered.found t a g) = let z : _≡_ {A = ℕ} 0 1 = cc (answer-refused (windowOf asked) (takenFrom asked given) r k) in absurd (omega arith)
 
   -- an accepted one gets the finding of the history
-  pub taken : (r : Record) → Accepted (windowOf asked) (takenOf asked given) r →
-      giveOf (runOf asked given) r .answer ≡ Found (findingBy (ofHistory (windowOf asked) (takenOf asked given)) (r .event))
-  taken r k = go (answered (windowOf asked) (takenOf asked given) (runOf asked given) r viewed)
+  pub taken : (r : Record) → Accepted (windowOf asked) (takenFrom asked given) r →
+      giveOf (runFrom asked given) r .answer ≡ Found (findingBy (ofHistory (windowOf asked) (takenFrom asked given)) (r .event))
+  taken r k = go (answered (windowOf asked) (takenFrom asked given) (runFrom asked given) r viewed)
     where
-      go : Answered (windowOf asked) (takenOf asked given) (runOf asked given) r →
-          giveOf (runOf asked given) r .answer ≡ Found (findingBy (ofHistory (windowOf asked) (takenOf asked given)) (r .event))
-      go (Answered.refused a g) = let z : _≡_ {A = ℕ} 0 1 = cc (answer-found (windowOf asked) (takenOf asked given) r k) in absurd (omega arith)
-      go (Answered.found t a g) = rw g (sym a ∙ answer-found (windowOf asked) (takenOf asked given) r k)
+      go : Answered (windowOf asked) (takenFrom asked given) (runFrom asked given) r →
+          giveOf (runFrom asked given) r .answer ≡ Found (findingBy (ofHistory (windowOf asked) (takenFrom asked given)) (r .event))
+      go (Answered.refused a g) = let z : _≡_ {A = ℕ} 0 1 = cc (answer-found (windowOf asked) (takenFrom asked given) r k) in absurd (omega arith)
+      go (Answered.found t a g) = rw g (sym a ∙ answer-found (windowOf asked) (takenFrom asked given) r k)
 
 -- so "holds" is answered exactly when it is the finding
 pub holds-exactly : {P : Type 0} {a : Answer} {f : Finding} → a ≡ Found f → (f ≡ Holds) ↔ P → (a ≡ Found Holds) ↔ P

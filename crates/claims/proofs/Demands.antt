@@ -30,7 +30,7 @@ use Rattle.engine.specs.declared.Closing.the-variants.{Refused as CloseRefused,
 use Rattle.engine.specs.Call.{emptyRun, freshOf, askOf, closeOf}
 use Rattle.engine.specs.Given.{reported}
 use Rattle.engine.proofs.Link.{findings-counted}
-use Rattle.claims.specs.After.{runOf, takenOf, answersOf}
+use Rattle.claims.specs.After.{runFrom, takenFrom, answersFrom}
 use Rattle.claims.specs.Demand1.{Demand1}
 use Rattle.claims.specs.Demand2.{Demand2}
 use Rattle.claims.specs.Demand3.{Demand3}
@@ -47,39 +47,39 @@ window-taken asked low high = rw (ne-eqb asked 0 (λ z. omega (arith, low, z)), 
 
 module _ (asked : ℕ) (given : List Record) where
   -- a byte asked
-  lines-viewed : ofRun (runOf asked given) .lines ≡ windowOf asked
+  lines-viewed : ofRun (runFrom asked given) .lines ≡ windowOf asked
   lines-viewed = ap (λ (v : View). v .lines) (viewed asked given)
 
-  byte-refused : (byte : ℕ) → windowBytes (windowOf asked) ≤ byte → askOf (runOf asked given) byte ≡ AskRefused PastWindow
+  byte-refused : (byte : ℕ) → windowBytes (windowOf asked) ≤ byte → askOf (runFrom asked given) byte ≡ AskRefused PastWindow
   byte-refused byte k = rw (lines-viewed, lt-ltb (windowBytes (windowOf asked)) (byte + 1) (omega arith))
 
-  byte-known : (byte : ℕ) → byte < windowBytes (windowOf asked) → askOf (runOf asked given) byte ≡ Known (intervalOf (takenOf asked given) byte)
+  byte-known : (byte : ℕ) → byte < windowBytes (windowOf asked) → askOf (runFrom asked given) byte ≡ Known (intervalOf (takenFrom asked given) byte)
   byte-known byte k =
       rw (lines-viewed, le-ltb (windowBytes (windowOf asked)) (byte + 1) (omega arith)) (ap (λ (v : View). Known (v .interval byte)) (viewed asked given))
 
   -- a closing
-  closing-refused : depth (takenOf asked given) ≢ 0 → closeOf (runOf asked given) ≡ CloseRefused TransactionOpen
-  closing-refused d = rw (tracked asked given .nesting, ne-eqb (depth (takenOf asked given)) 0 d)
+  closing-refused : depth (takenFrom asked given) ≢ 0 → closeOf (runFrom asked given) ≡ CloseRefused TransactionOpen
+  closing-refused d = rw (tracked asked given .nesting, ne-eqb (depth (takenFrom asked given)) 0 d)
 
-  closing-totals : depth (takenOf asked given) ≡ 0 →
-      closeOf (runOf asked given) ≡ Totals (length (takenOf asked given)) (epochAt (takenOf asked given) (length (takenOf asked given))) (reported (answersOf asked given))
+  closing-totals : let h = takenFrom asked given in depth h ≡ 0 →
+      closeOf (runFrom asked given) ≡ Totals (length h) (epochAt h (length h)) (reported (answersFrom asked given))
   closing-totals d =
       let t = tracked asked given in
       rw (t .nesting, d, t .events, t .epoch, findings-counted (windowOf asked) (window-fits asked) given, same asked given)
 
   -- the claim of an accepted event's finding
-  claimed : (r : Record) (f : Finding) → giveOf (runOf asked given) r .answer ≡ Found f → Claim (takenOf asked given) r f
+  claimed : (r : Record) (f : Finding) → giveOf (runFrom asked given) r .answer ≡ Found f → Claim (takenFrom asked given) r f
   claimed r f e = go (decided asked given r)
     where
-      go : ((x : Refusal) × RefusedBy (windowOf asked) (takenOf asked given) r x) ⊎ Accepted (windowOf asked) (takenOf asked given) r → Claim (takenOf asked given) r f
+      go : ((x : Refusal) × RefusedBy (windowOf asked) (takenFrom asked given) r x) ⊎ Accepted (windowOf asked) (takenFrom asked given) r → Claim (takenFrom asked given) r f
       go (inl (x, k)) =
           let answer = ap (λ (g : Given). g .answer) (refused asked given r k) in
           let z : _≡_ {A = ℕ} 0 1 = cc in
           absurd (omega arith)
       go (inr k) =
           let found = taken asked given r k in
-          let same-finding : findingBy (ofHistory (windowOf asked) (takenOf asked given)) (r .event) ≡ f = cc in
-          subst (λ (f : Finding). Claim (takenOf asked given) r f) same-finding (finding-claim (windowOf asked) (takenOf asked given) (inside asked given) r)
+          let same-finding : findingBy (ofHistory (windowOf asked) (takenFrom asked given)) (r .event) ≡ f = cc in
+          subst (λ (f : Finding). Claim (takenFrom asked given) r f) same-finding (finding-claim (windowOf asked) (takenFrom asked given) (inside asked given) r)
 
 pub demand1 : Demand1
 demand1 =
@@ -87,7 +87,7 @@ demand1 =
       windowRefused = window-refused;
       windowTaken = window-taken;
       eventRefused = refused;
-      eventTaken = λ asked given r k. (findingBy (ofHistory (windowOf asked) (takenOf asked given)) (r .event), taken asked given r k);
+      eventTaken = λ asked given r k. (findingBy (ofHistory (windowOf asked) (takenFrom asked given)) (r .event), taken asked given r k);
       eventDecided = decided;
       byteRefused = byte-refused;
       byteTaken = λ asked given byte k e. let known = byte-known asked given byte k in let z : _≡_ {A = ℕ} 0 1 = cc in absurd (omega arith);
@@ -103,8 +103,8 @@ demand3 =
     record {
       claim = λ asked given. rw (same asked given) (whole-claim asked given);
       only = λ asked given others k. one-run k (whole-claim asked given) ∙ sym (same asked given);
-      persisted = λ asked given r k e. holds-exactly (taken asked given r k) (persisted-holds (windowOf asked) (takenOf asked given) (inside asked given) r e);
-      ordered = λ asked given r k e. holds-exactly (taken asked given r k) (ordered-holds (windowOf asked) (takenOf asked given) (inside asked given) r e);
-      ends = λ asked given r k e d s. holds-exactly (taken asked given r k) (end-holds (windowOf asked) (takenOf asked given) (inside asked given) r e d s);
+      persisted = λ asked given r k e. holds-exactly (taken asked given r k) (persisted-holds (windowOf asked) (takenFrom asked given) (inside asked given) r e);
+      ordered = λ asked given r k e. holds-exactly (taken asked given r k) (ordered-holds (windowOf asked) (takenFrom asked given) (inside asked given) r e);
+      ends = λ asked given r k e d s. holds-exactly (taken asked given r k) (end-holds (windowOf asked) (takenFrom asked given) (inside asked given) r e d s);
       totals = closing-totals;
     }

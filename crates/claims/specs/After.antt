@@ -11,13 +11,13 @@ use Rattle.engine.specs.Call.{freshOf}
 use Rattle.engine.specs.Given.{runAfter, outcomes}
 
 -- the run after them
-abbrev pub runOf : ℕ → List Record → Run
-runOf asked given = runAfter (freshOf asked .run) given
+abbrev pub runFrom : ℕ → List Record → Run
+runFrom asked given = runAfter (freshOf asked .run) given
 
 -- the accepted ones
-abbrev pub takenOf : ℕ → List Record → History
-takenOf asked given = accepted (windowOf asked) [] given
+abbrev pub takenFrom : ℕ → List Record → History
+takenFrom asked given = accepted (windowOf asked) [] given
 
 -- the answers that the run gave
-abbrev pub answersOf : ℕ → List Record → List Answer
-answersOf asked given = outcomes (freshOf asked .run) given
+abbrev pub answersFrom : ℕ → List Record → List Answer
+answersFrom asked given = outcomes (freshOf asked .run) given

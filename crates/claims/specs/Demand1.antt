@@ -17,26 +17,28 @@ use Rattle.tables.specs.Give.{giveOf}
 use Rattle.engine.specs.declared.Asked.the-variants.{Refused as AskRefused}
 use Rattle.engine.specs.declared.Closing.the-variants.{Refused as CloseRefused}
 use Rattle.engine.specs.Call.{emptyRun, freshOf, askOf, closeOf}
-use Rattle.claims.specs.After.{runOf, takenOf}
+use Rattle.claims.specs.After.{runFrom, takenFrom}
 
 pub record Demand1 : Type 0 where
   -- 4: lines outside 1 to 64; a run of one line is handed over
-  pub windowRefused : (asked : ℕ) → (asked ≡ 0) ⊎ (mostLines < asked) → freshOf asked ≡ record { check = Breaks BadLines; run = emptyRun 1 }
-  pub windowTaken : (asked : ℕ) → 1 ≤ asked → asked ≤ mostLines → freshOf asked ≡ record { check = Passed; run = emptyRun asked }
+  pub windowRefused : (asked : ℕ) → (asked ≡ 0) ⊎ (mostLines < asked) →
+      freshOf asked ≡ record { check = Breaks BadLines; run = emptyRun 1 }
+  pub windowTaken : (asked : ℕ) → 1 ≤ asked → asked ≤ mostLines →
+      freshOf asked ≡ record { check = Passed; run = emptyRun asked }
   -- 8 to 12: the first that applies after the accepted events; the run is as it was
-  pub eventRefused : (asked : ℕ) (given : List Record) (r : Record) {x : Refusal} → RefusedBy (windowOf asked) (takenOf asked given) r x →
-      giveOf (runOf asked given) r ≡ record { answer = Refused x; run = runOf asked given }
-  pub eventTaken : (asked : ℕ) (given : List Record) (r : Record) → Accepted (windowOf asked) (takenOf asked given) r →
-      (f : Finding) × (giveOf (runOf asked given) r .answer ≡ Found f)
+  pub eventRefused : (asked : ℕ) (given : List Record) (r : Record) {x : Refusal} → RefusedBy (windowOf asked) (takenFrom asked given) r x →
+      giveOf (runFrom asked given) r ≡ record { answer = Refused x; run = runFrom asked given }
+  pub eventTaken : (asked : ℕ) (given : List Record) (r : Record) → Accepted (windowOf asked) (takenFrom asked given) r →
+      (f : Finding) × (giveOf (runFrom asked given) r .answer ≡ Found f)
   pub eventDecided : (asked : ℕ) (given : List Record) (r : Record) →
-      ((x : Refusal) × RefusedBy (windowOf asked) (takenOf asked given) r x) ⊎ Accepted (windowOf asked) (takenOf asked given) r
+      ((x : Refusal) × RefusedBy (windowOf asked) (takenFrom asked given) r x) ⊎ Accepted (windowOf asked) (takenFrom asked given) r
   -- 9: an asked byte past the window
   pub byteRefused : (asked : ℕ) (given : List Record) (byte : ℕ) → windowBytes (windowOf asked) ≤ byte →
-      askOf (runOf asked given) byte ≡ AskRefused PastWindow
+      askOf (runFrom asked given) byte ≡ AskRefused PastWindow
   pub byteTaken : (asked : ℕ) (given : List Record) (byte : ℕ) → byte < windowBytes (windowOf asked) →
-      askOf (runOf asked given) byte ≢ AskRefused PastWindow
+      askOf (runFrom asked given) byte ≢ AskRefused PastWindow
   -- 13: the run is closed with a transaction open
-  pub closingRefused : (asked : ℕ) (given : List Record) → depth (takenOf asked given) ≢ 0 →
-      closeOf (runOf asked given) ≡ CloseRefused TransactionOpen
-  pub closingTaken : (asked : ℕ) (given : List Record) → depth (takenOf asked given) ≡ 0 →
-      closeOf (runOf asked given) ≢ CloseRefused TransactionOpen
+  pub closingRefused : (asked : ℕ) (given : List Record) → depth (takenFrom asked given) ≢ 0 →
+      closeOf (runFrom asked given) ≡ CloseRefused TransactionOpen
+  pub closingTaken : (asked : ℕ) (given : List Record) → depth (takenFrom asked given) ≡ 0 →
+      closeOf (runFrom asked given) ≢ CloseRefused TransactionOpen

@@ -15,17 +15,17 @@ use Rattle.tables.specs.Give.{giveOf}
 use Rattle.engine.specs.declared.Asked.the-variants.{Known}
 use Rattle.engine.specs.Call.{askOf}
 use Rattle.engine.specs.Tracks.{Tracks}
-use Rattle.claims.specs.After.{runOf, takenOf}
+use Rattle.claims.specs.After.{runFrom, takenFrom}
 use Rattle.claims.specs.Paper.{status}
 
 pub record Demand2 : Type 0 where
   -- each number and each table entry of the run
-  pub tables : (asked : ℕ) (given : List Record) → Tracks (windowOf asked) (takenOf asked given) (runOf asked given)
+  pub tables : (asked : ℕ) (given : List Record) → Tracks (windowOf asked) (takenFrom asked given) (runFrom asked given)
   -- the interval of every byte of the window, as it is answered
   pub intervals : (asked : ℕ) (given : List Record) (byte : ℕ) → byte < windowBytes (windowOf asked) →
-      askOf (runOf asked given) byte ≡ Known (intervalOf (takenOf asked given) byte)
+      askOf (runFrom asked given) byte ≡ Known (intervalOf (takenFrom asked given) byte)
   -- the finding of every event
-  pub findings : (asked : ℕ) (given : List Record) (r : Record) (f : Finding) → giveOf (runOf asked given) r .answer ≡ Found f →
-      Claim (takenOf asked given) r f
+  pub findings : (asked : ℕ) (given : List Record) (r : Record) (f : Finding) → giveOf (runFrom asked given) r .answer ≡ Found f →
+      Claim (takenFrom asked given) r f
   -- the rules of paper 000 give the same interval, after every list of events
   pub paper : (byte : ℕ) (h : History) → status byte h .persist ≡ intervalOf h byte

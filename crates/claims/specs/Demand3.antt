@@ -22,29 +22,30 @@ use Rattle.tables.specs.Give.{giveOf}
 use Rattle.engine.specs.declared.Closing.the-variants.{Totals}
 use Rattle.engine.specs.Call.{closeOf}
 use Rattle.engine.specs.Given.{reported}
-use Rattle.claims.specs.After.{runOf, takenOf, answersOf}
+use Rattle.claims.specs.After.{runFrom, takenFrom, answersFrom}
 
 pub record Demand3 : Type 0 where
   -- the answers meet the claim: each event is refused by the first number that applies, or no number applies and its finding's
   -- claim is true
-  pub claim : (asked : ℕ) (given : List Record) → ClaimRun (windowOf asked) [] given (answersOf asked given)
+  pub claim : (asked : ℕ) (given : List Record) → ClaimRun (windowOf asked) [] given (answersFrom asked given)
   -- and no other answers do
-  pub only : (asked : ℕ) (given : List Record) (others : List Answer) → ClaimRun (windowOf asked) [] given others → others ≡ answersOf asked given
+  pub only : (asked : ℕ) (given : List Record) (others : List Answer) → ClaimRun (windowOf asked) [] given others →
+      others ≡ answersFrom asked given
   -- so an accepted persisted over A holds exactly when no byte of A is broken
-  pub persisted : (asked : ℕ) (given : List Record) (r : Record) {a : Range} →
-      Accepted (windowOf asked) (takenOf asked given) r → r .event ≡ Persisted a →
-      (giveOf (runOf asked given) r .answer ≡ Found Holds) ↔
-      ((b : ℕ) → BrokenByte (r ∷ takenOf asked given) (suc (length (takenOf asked given))) (λ b. covers a b ≡ true) b → ⊥)
+  pub persisted : (asked : ℕ) (given : List Record) (r : Record) {a : Range} → let h = takenFrom asked given in
+      Accepted (windowOf asked) h r → r .event ≡ Persisted a →
+      (giveOf (runFrom asked given) r .answer ≡ Found Holds) ↔
+      ((b : ℕ) → BrokenByte (r ∷ h) (suc (length h)) (λ b. covers a b ≡ true) b → ⊥)
   -- an accepted ordered, exactly when no pair of a kept byte of B and a lost byte of A is broken
-  pub ordered : (asked : ℕ) (given : List Record) (r : Record) {a b : Range} →
-      Accepted (windowOf asked) (takenOf asked given) r → r .event ≡ Ordered a b →
-      (giveOf (runOf asked given) r .answer ≡ Found Holds) ↔
-      ((kept lost : ℕ) → BrokenPair (r ∷ takenOf asked given) (suc (length (takenOf asked given))) a b kept lost → ⊥)
+  pub ordered : (asked : ℕ) (given : List Record) (r : Record) {a b : Range} → let h = takenFrom asked given in
+      Accepted (windowOf asked) h r → r .event ≡ Ordered a b →
+      (giveOf (runFrom asked given) r .answer ≡ Found Holds) ↔
+      ((kept lost : ℕ) → BrokenPair (r ∷ h) (suc (length h)) a b kept lost → ⊥)
   -- an accepted outermost end with a store since its begin, exactly when no byte stored since its begin is broken
-  pub ends : (asked : ℕ) (given : List Record) (r : Record) →
-      Accepted (windowOf asked) (takenOf asked given) r → r .event ≡ End → depth (takenOf asked given) ≡ 1 → Since (takenOf asked given) stores →
-      (giveOf (runOf asked given) r .answer ≡ Found Holds) ↔
-      ((b : ℕ) → BrokenByte (r ∷ takenOf asked given) (suc (length (takenOf asked given))) (λ b. Since (takenOf asked given) (storesByte b)) b → ⊥)
+  pub ends : (asked : ℕ) (given : List Record) (r : Record) → let h = takenFrom asked given in
+      Accepted (windowOf asked) h r → r .event ≡ End → depth h ≡ 1 → Since h stores →
+      (giveOf (runFrom asked given) r .answer ≡ Found Holds) ↔
+      ((b : ℕ) → BrokenByte (r ∷ h) (suc (length h)) (λ b. Since h (storesByte b)) b → ⊥)
   -- the totals at closing: the accepted events, the fences among them, and the findings other than none
-  pub totals : (asked : ℕ) (given : List Record) → depth (takenOf asked given) ≡ 0 →
-      closeOf (runOf asked given) ≡ Totals (length (takenOf asked given)) (epochAt (takenOf asked given) (length (takenOf asked given))) (reported (answersOf asked given))
+  pub totals : (asked : ℕ) (given : List Record) → let h = takenFrom asked given in depth h ≡ 0 →
+      closeOf (runFrom asked given) ≡ Totals (length h) (epochAt h (length h)) (reported (answersFrom asked given))

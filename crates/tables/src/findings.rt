@@ -160,14 +160,8 @@ pub(crate) fn finding_of(
         r ≡
         findingBy
         (ofRun
-        (runOf
-        counts
-        (now (stored .entry))
-        (now (logged .entry))
-        (now (opened .entry))
-        (now (closed .entry))
-        (now (written .entry))
-        (now (backed .entry))))
+        (runOf counts (now (stored .entry)) (now (logged .entry)) (now (opened .entry)) (now (closed .entry))
+        (now (written .entry)) (now (backed .entry))))
         e
         ⌝ }
 {

@@ -47,7 +47,7 @@ pub struct Stepped {
 }
 
 // What a search over bytes or lines looks for, in the entries of two tables.
-pub enum Test {
+pub(crate) enum Test {
     Since(u16), // an event after this one
     NotSince(u16), // none after it
     OpenSince(u16), // a store after it, and no closing epoch
@@ -55,13 +55,13 @@ pub enum Test {
 }
 
 // What it found.
-pub enum Search {
+pub(crate) enum Search {
     Nothing,
     At(u16),
 }
 
 // What a search over pairs of bytes found.
-pub enum PairSearch {
+pub(crate) enum PairSearch {
     Nothing,
     At { kept: u16, lost: u16 },
 }
@@ -86,23 +86,11 @@ pub fn step(
     r: Record,
 ) -> Stepped
     ensures { λ s. ⌜
-        outcomeOf
-        s
-        (now (stored .exit))
-        (now (logged .exit))
-        (now (opened .exit))
-        (now (closed .exit))
-        (now (written .exit))
-        (now (backed .exit)) ≡
+        outcomeOf s (now (stored .exit)) (now (logged .exit)) (now (opened .exit)) (now (closed .exit))
+        (now (written .exit)) (now (backed .exit)) ≡
         giveOf
-        (runOf
-        counts
-        (now (stored .entry))
-        (now (logged .entry))
-        (now (opened .entry))
-        (now (closed .entry))
-        (now (written .entry))
-        (now (backed .entry)))
+        (runOf counts (now (stored .entry)) (now (logged .entry)) (now (opened .entry)) (now (closed .entry))
+        (now (written .entry)) (now (backed .entry)))
         r
         ⌝ }
 {

@@ -103,23 +103,11 @@ pub(crate) fn update(
 )
     requires { ⌜ refusalBy (limitsOf counts) e ≡ Passed ⌝ }
     ensures { λ _. ⌜
-        runOf
-        counts
-        (now (stored .exit))
-        (now (logged .exit))
-        (now (opened .exit))
-        (now (closed .exit))
-        (now (written .exit))
-        (now (backed .exit)) ≡
+        runOf counts (now (stored .exit)) (now (logged .exit)) (now (opened .exit)) (now (closed .exit))
+        (now (written .exit)) (now (backed .exit)) ≡
         tablesAfter
-        (runOf
-        counts
-        (now (stored .entry))
-        (now (logged .entry))
-        (now (opened .entry))
-        (now (closed .entry))
-        (now (written .entry))
-        (now (backed .entry)))
+        (runOf counts (now (stored .entry)) (now (logged .entry)) (now (opened .entry)) (now (closed .entry))
+        (now (written .entry)) (now (backed .entry)))
         e
         ⌝ }
 {
