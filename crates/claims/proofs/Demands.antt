@@ -90,9 +90,9 @@ demand1 =
       eventTaken = λ asked given r k. (findingBy (ofHistory (windowOf asked) (takenFrom asked given)) (r .event), taken asked given r k);
       eventDecided = decided;
       byteRefused = byte-refused;
-      byteTaken = λ asked given byte k e. let known = byte-known asked given byte k in let z : _≡_ {A = ℕ} 0 1 = cc in absurd (omega arith);
+      byteTaken = λ asked given byte x k e. let known = byte-known asked given byte k in let z : _≡_ {A = ℕ} 0 1 = cc in absurd (omega arith);
       closingRefused = closing-refused;
-      closingTaken = λ asked given d e. let totals = closing-totals asked given d in let z : _≡_ {A = ℕ} 0 1 = cc in absurd (omega arith);
+      closingTaken = λ asked given x d e. let totals = closing-totals asked given d in let z : _≡_ {A = ℕ} 0 1 = cc in absurd (omega arith);
     }
 
 pub demand2 : Demand2

@@ -35,10 +35,10 @@ pub record Demand1 : Type 0 where
   -- 9: an asked byte past the window
   pub byteRefused : (asked : ℕ) (given : List Record) (byte : ℕ) → windowBytes (windowOf asked) ≤ byte →
       askOf (runFrom asked given) byte ≡ AskRefused PastWindow
-  pub byteTaken : (asked : ℕ) (given : List Record) (byte : ℕ) → byte < windowBytes (windowOf asked) →
-      askOf (runFrom asked given) byte ≢ AskRefused PastWindow
+  pub byteTaken : (asked : ℕ) (given : List Record) (byte : ℕ) (x : Refusal) → byte < windowBytes (windowOf asked) →
+      askOf (runFrom asked given) byte ≢ AskRefused x
   -- 13: the run is closed with a transaction open
   pub closingRefused : (asked : ℕ) (given : List Record) → depth (takenFrom asked given) ≢ 0 →
       closeOf (runFrom asked given) ≡ CloseRefused TransactionOpen
-  pub closingTaken : (asked : ℕ) (given : List Record) → depth (takenFrom asked given) ≡ 0 →
-      closeOf (runFrom asked given) ≢ CloseRefused TransactionOpen
+  pub closingTaken : (asked : ℕ) (given : List Record) (x : Refusal) → depth (takenFrom asked given) ≡ 0 →
+      closeOf (runFrom asked given) ≢ CloseRefused x
