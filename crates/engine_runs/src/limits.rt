@@ -1,6 +1,7 @@
 // Runs at the limits of the window and of the state.
 use crate::calls;
 use crate::print;
+use tables::Run;
 
 // 9: a range that runs past two lines, also as the second of an ordered.
 fn ranges() {
@@ -98,6 +99,16 @@ fn exhausted() {
     calls::ask(run, 0);
 }
 
+// What follows the write-back in the two runs below.
+fn after_write_back(given: Run) {
+    let mut run = calls::fence(given);
+    run = calls::persisted(run, 0, 8);
+    run = calls::store(run, 64, 8);
+    run = calls::persisted(run, 64, 8);
+    calls::ask(run, 0);
+    calls::close(run);
+}
+
 // Refused events change nothing: the other lines are those of the next run.
 fn refused_between() {
     print::heading(b"refused events between accepted ones");
@@ -106,12 +117,7 @@ fn refused_between() {
     run = calls::write_back(run, 0, 8);
     run = calls::log(run, 0, 8);
     run = calls::store(run, 127, 2);
-    run = calls::fence(run);
-    run = calls::persisted(run, 0, 8);
-    run = calls::store(run, 64, 8);
-    run = calls::persisted(run, 64, 8);
-    calls::ask(run, 0);
-    calls::close(run);
+    after_write_back(run);
 }
 
 // The accepted events of the run before.
@@ -120,12 +126,7 @@ fn none_between() {
     let mut run = calls::fresh(2);
     run = calls::store(run, 0, 8);
     run = calls::write_back(run, 0, 8);
-    run = calls::fence(run);
-    run = calls::persisted(run, 0, 8);
-    run = calls::store(run, 64, 8);
-    run = calls::persisted(run, 64, 8);
-    calls::ask(run, 0);
-    calls::close(run);
+    after_write_back(run);
 }
 
 // The runs, in this order.
