@@ -6,6 +6,7 @@ use mathlib.Core.List.{List, []}
 use Prim.Native.Nat.{ℕ, _≤_}
 use native.Mathlib.Omega.{arith}
 use lib.Dec.{eqb, ltb}
+use lib.ListN.{length}
 use borrow.Author.Tests.{ltb-false}
 use Rattle.event.specs.declared.Record.{Record}
 use Rattle.event.specs.declared.Finding.{Finding}
@@ -17,19 +18,23 @@ use Rattle.event.specs.declared.Check.the-variants.{Passed, Refused as Breaks}
 use Rattle.event.specs.declared.Answer.{Answer}
 use Rattle.event.specs.declared.Answer.the-variants.{Refused, Found}
 use Rattle.event.specs.Window.{mostLines}
+use Rattle.history.specs.Interval.{epochAt}
+use Rattle.history.specs.Transaction.{depth}
 use Rattle.history.specs.View.{ofHistory}
-use Rattle.history.specs.Refused.{limitsBy}
+use Rattle.history.specs.Refused.{Limit, limitsBy, First, NoneBroken}
 use Rattle.history.specs.Found.{findingBy}
-use Rattle.history.specs.Given.{windowFor, windowOf, RefusedBy, Accepted, answers}
+use Rattle.history.specs.Given.{windowFor, windowOf, RefusedBy, Accepted, answers, reported}
 use Rattle.history.proofs.Claim.{Inside}
 use Rattle.history.proofs.Given.{Checked, checked, answer-refused, answer-found}
 use Rattle.history.proofs.Meaning.Accepted.{Taken, accepted-taken}
 use Rattle.tables.specs.View.{ofRun}
 use Rattle.tables.specs.Give.{giveOf}
+use Rattle.engine.specs.declared.Closing.the-variants.{Totals}
+use Rattle.engine.specs.Call.{closeOf}
 use Rattle.engine.specs.Tracks.{Tracks}
 use Rattle.engine.proofs.Histories.{taken-inside}
 use Rattle.engine.proofs.Answered.{Answered, answered}
-use Rattle.engine.proofs.Link.{same-view, tracks, same-answers}
+use Rattle.engine.proofs.Link.{same-view, tracks, same-answers, findings-counted}
 use Rattle.claims.specs.After.{runFrom, takenFrom, answersFrom}
 
 -- a window has at most 64 lines
@@ -40,6 +45,17 @@ window-fits asked = go (eqb asked 0) (ltb 64 asked) refl
     go true many e = omega arith
     go false true e = omega arith
     go false false e = ltb-false 64 asked e
+
+-- some number applies first, or none does
+abbrev pub Limited : List Limit → Type 0
+Limited limits = ((x : Refusal) × First limits x) ⊎ NoneBroken limits
+
+pub limited : (limits : List Limit) → Limited limits
+limited limits = go (checked limits)
+  where
+    go : {c : Check} → Checked limits c → Limited limits
+    go (Checked.none k) = inr k
+    go (Checked.first {x = x} k) = inl (x, k)
 
 module _ (asked : ℕ) (given : List Record) where
   -- the run tracks the accepted events
@@ -59,12 +75,7 @@ module _ (asked : ℕ) (given : List Record) where
 
   -- an event is refused by a number or accepted
   pub decided : (r : Record) → ((x : Refusal) × RefusedBy (windowOf asked) (takenFrom asked given) r x) ⊎ Accepted (windowOf asked) (takenFrom asked given) r
-  decided r = go (checked (limitsBy (ofHistory (windowOf asked) (takenFrom asked given)) (r .event)))
-    where
-      go : {c : Check} → Checked (limitsBy (ofHistory (windowOf asked) (takenFrom asked given)) (r .event)) c →
-          ((x : Refusal) × RefusedBy (windowOf asked) (takenFrom asked given) r x) ⊎ Accepted (windowOf asked) (takenFrom asked given) r
-      go (Checked.none k) = inr k
-      go (Checked.first {x = x} k) = inl (x, k)
+  decided r = limited (limitsBy (ofHistory (windowOf asked) (takenFrom asked given)) (r .event))
 
   -- a refused event leaves the run as it was
   pub refused : (r : Record) {x : Refusal} → RefusedBy (windowOf asked) (takenFrom asked given) r x →
@@ -86,6 +97,13 @@ module _ (asked : ℕ) (given : List Record) where
           giveOf (runFrom asked given) r .answer ≡ Found (findingBy (ofHistory (windowOf asked) (takenFrom asked given)) (r .event))
       go (Answered.refused a g) = let z : _≡_ {A = ℕ} 0 1 = cc (answer-found (windowOf asked) (takenFrom asked given) r k) in absurd (omega arith)
       go (Answered.found t a g) = rw g (sym a ∙ answer-found (windowOf asked) (takenFrom asked given) r k)
+
+  -- the totals at closing
+  pub closing-totals : let h = takenFrom asked given in depth h ≡ 0 →
+      closeOf (runFrom asked given) ≡ Totals (length h) (epochAt h (length h)) (reported (answersFrom asked given))
+  closing-totals d =
+      let t = tracked in
+      rw (t .nesting, d, t .events, t .epoch, findings-counted (windowOf asked) (window-fits asked) given, same)
 
 -- so "holds" is answered exactly when it is the finding
 pub holds-exactly : {P : Type 0} {a : Answer} {f : Finding} → a ≡ Found f → (f ≡ Holds) ↔ P → (a ≡ Found Holds) ↔ P

@@ -1,10 +1,9 @@
 -- The demands hold.
 use mathlib.Core.Path.{_≡_, sym, ap, _∙_, subst}
 use mathlib.Core.Logic.{_≢_, _⊎_, inl, inr}
-use mathlib.Core.List.{List}
+use mathlib.Core.List.{List, []}
 use Prim.Native.Nat.{ℕ, _+_, _≤_, _<_}
 use native.Mathlib.Omega.{arith}
-use lib.ListN.{length}
 use borrow.Author.Tests.{eq-eqb, ne-eqb, lt-ltb, le-ltb}
 use Rattle.event.specs.declared.Record.{Record}
 use Rattle.event.specs.declared.Finding.{Finding}
@@ -13,7 +12,7 @@ use Rattle.event.specs.declared.Refusal.the-variants.{BadLines, PastWindow, Tra
 use Rattle.event.specs.declared.Check.the-variants.{Passed, Refused as Breaks}
 use Rattle.event.specs.declared.Answer.the-variants.{Found}
 use Rattle.event.specs.Window.{mostLines, windowBytes}
-use Rattle.history.specs.Interval.{epochAt, intervalOf}
+use Rattle.history.specs.Interval.{intervalOf}
 use Rattle.history.specs.View.{View, ofHistory}
 use Rattle.history.specs.Found.{findingBy}
 use Rattle.history.specs.Claim.{Claim}
@@ -26,16 +25,18 @@ use Rattle.tables.specs.declared.Given.{Given}
 use Rattle.tables.specs.Give.{giveOf}
 use Rattle.tables.specs.View.{ofRun}
 use Rattle.engine.specs.declared.Asked.the-variants.{Refused as AskRefused, Known}
-use Rattle.engine.specs.declared.Closing.the-variants.{Refused as CloseRefused, Totals}
+use Rattle.engine.specs.declared.Closing.the-variants.{Refused as CloseRefused}
 use Rattle.engine.specs.Call.{emptyRun, freshOf, askOf, closeOf}
-use Rattle.engine.specs.Given.{reported}
-use Rattle.engine.proofs.Link.{findings-counted}
-use Rattle.claims.specs.After.{runFrom, takenFrom, answersFrom}
+use Rattle.trace.specs.Records.{linesIn, recordsIn}
+use Rattle.judge.specs.Verdict.{traceLimits}
+use Rattle.claims.specs.After.{runFrom, takenFrom}
 use Rattle.claims.specs.Demand1.{Demand1}
 use Rattle.claims.specs.Demand2.{Demand2}
 use Rattle.claims.specs.Demand3.{Demand3}
 use Rattle.claims.proofs.Paper.{persist-interval}
-use Rattle.claims.proofs.Answers.{window-fits, tracked, viewed, same, inside, decided, refused, taken, holds-exactly}
+use Rattle.claims.proofs.Answers.{limited, tracked, viewed, same, inside, decided, refused, taken, closing-totals, holds-exactly}
+use Rattle.claims.proofs.Traces.{records-decided, trace-refused, record-refused, trace-open, trace-taken}
+use Rattle.claims.proofs.Singly.{given-singly}
 
 -- a fresh window
 window-refused : (asked : ℕ) → (asked ≡ 0) ⊎ (mostLines < asked) → freshOf asked ≡ record { check = Breaks BadLines; run = emptyRun 1 }
@@ -60,12 +61,6 @@ module _ (asked : ℕ) (given : List Record) where
   -- a closing
   closing-refused : depth (takenFrom asked given) ≢ 0 → closeOf (runFrom asked given) ≡ CloseRefused TransactionOpen
   closing-refused d = rw (tracked asked given .nesting, ne-eqb (depth (takenFrom asked given)) 0 d)
-
-  closing-totals : let h = takenFrom asked given in depth h ≡ 0 →
-      closeOf (runFrom asked given) ≡ Totals (length h) (epochAt h (length h)) (reported (answersFrom asked given))
-  closing-totals d =
-      let t = tracked asked given in
-      rw (t .nesting, d, t .events, t .epoch, findings-counted (windowOf asked) (window-fits asked) given, same asked given)
 
   -- the claim of an accepted event's finding
   claimed : (r : Record) (f : Finding) → giveOf (runFrom asked given) r .answer ≡ Found f → Claim (takenFrom asked given) r f
@@ -93,6 +88,12 @@ demand1 =
       byteTaken = λ asked given byte x k e. let known = byte-known asked given byte k in let z : _≡_ {A = ℕ} 0 1 = cc in absurd (omega arith);
       closingRefused = closing-refused;
       closingTaken = λ asked given x d e. let totals = closing-totals asked given d in let z : _≡_ {A = ℕ} 0 1 = cc in absurd (omega arith);
+      traceRefused = trace-refused;
+      traceLimited = λ trace area. limited (traceLimits trace area);
+      recordRefused = record-refused;
+      recordsDecided = λ trace. records-decided (linesIn trace) 1 [] (recordsIn trace);
+      traceOpen = trace-open;
+      traceTaken = trace-taken;
     }
 
 pub demand2 : Demand2
@@ -107,4 +108,5 @@ demand3 =
       ordered = λ asked given r k e. holds-exactly (taken asked given r k) (ordered-holds (windowOf asked) (takenFrom asked given) (inside asked given) r e);
       ends = λ asked given r k e d s. holds-exactly (taken asked given r k) (end-holds (windowOf asked) (takenFrom asked given) (inside asked given) r e d s);
       totals = closing-totals;
+      traces = given-singly;
     }

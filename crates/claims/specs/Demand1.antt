@@ -1,8 +1,8 @@
--- Demand 1, for fresh windows, events, bytes asked and closings: whatever breaks a stated limit is refused by the first number that
--- applies, and by no number otherwise; the run is then what it was.
+-- Demand 1, for fresh windows, events, bytes asked, closings and traces: whatever breaks a stated limit is refused by the first
+-- number that applies, and by no number otherwise; run and findings area are then what they were.
 use mathlib.Core.Path.{_≡_}
 use mathlib.Core.Logic.{_≢_, _⊎_}
-use mathlib.Core.List.{List}
+use mathlib.Core.List.{List, []}
 use Prim.Native.Nat.{ℕ, _≤_, _<_}
 use Rattle.event.specs.declared.Record.{Record}
 use Rattle.event.specs.declared.Finding.{Finding}
@@ -11,13 +11,19 @@ use Rattle.event.specs.declared.Refusal.the-variants.{BadLines, PastWindow, Tra
 use Rattle.event.specs.declared.Check.the-variants.{Passed, Refused as Breaks}
 use Rattle.event.specs.declared.Answer.the-variants.{Refused, Found}
 use Rattle.event.specs.Window.{mostLines, windowBytes}
+use Rattle.history.specs.History.{History}
 use Rattle.history.specs.Transaction.{depth}
+use Rattle.history.specs.Refused.{First, NoneBroken}
 use Rattle.history.specs.Given.{windowOf, RefusedBy, Accepted}
 use Rattle.tables.specs.Give.{giveOf}
 use Rattle.engine.specs.declared.Asked.the-variants.{Refused as AskRefused}
 use Rattle.engine.specs.declared.Closing.the-variants.{Refused as CloseRefused}
 use Rattle.engine.specs.Call.{emptyRun, freshOf, askOf, closeOf}
+use Rattle.trace.specs.Records.{linesIn, recordsIn}
+use Rattle.judge.specs.declared.Verdict.the-variants.{Refused as RefusedAt}
+use Rattle.judge.specs.Verdict.{traceLimits, verdictOf}
 use Rattle.claims.specs.After.{runFrom, takenFrom}
+use Rattle.claims.specs.Traces.{Stops, Takes, Rejected}
 
 pub record Demand1 : Type 0 where
   -- 4: lines outside 1 to 64; a run of one line is handed over
@@ -42,3 +48,18 @@ pub record Demand1 : Type 0 where
       closeOf (runFrom asked given) ≡ CloseRefused TransactionOpen
   pub closingTaken : (asked : ℕ) (given : List Record) (x : Refusal) → depth (takenFrom asked given) ≡ 0 →
       closeOf (runFrom asked given) ≢ CloseRefused x
+  -- a trace: the first of 1, 2, 3, 4, 5, 14 that applies, at 0
+  pub traceRefused : (trace area : List ℕ) {x : Refusal} → First (traceLimits trace area) x → Rejected trace area x 0
+  pub traceLimited : (trace area : List ℕ) → ((x : Refusal) × First (traceLimits trace area) x) ⊎ NoneBroken (traceLimits trace area)
+  -- else the first record that 6 to 12 refuse, at its number from 1
+  pub recordRefused : (trace area : List ℕ) {x : Refusal} {n : ℕ} → NoneBroken (traceLimits trace area) →
+      Stops (linesIn trace) 1 [] (recordsIn trace) x n → Rejected trace area x n
+  pub recordsDecided : (trace : List ℕ) →
+      ((x : Refusal) × (n : ℕ) × Stops (linesIn trace) 1 [] (recordsIn trace) x n) ⊎
+      ((h : History) × Takes (linesIn trace) [] (recordsIn trace) h)
+  -- else 13, at 0
+  pub traceOpen : (trace area : List ℕ) {h : History} → NoneBroken (traceLimits trace area) →
+      Takes (linesIn trace) [] (recordsIn trace) h → depth h ≢ 0 → Rejected trace area TransactionOpen 0
+  -- else by no number
+  pub traceTaken : (trace area : List ℕ) {h : History} (x : Refusal) (n : ℕ) → NoneBroken (traceLimits trace area) →
+      Takes (linesIn trace) [] (recordsIn trace) h → depth h ≡ 0 → verdictOf trace area ≢ RefusedAt x n

@@ -17,12 +17,14 @@ use Rattle.history.specs.History.{stores, storesByte}
 use Rattle.history.specs.Interval.{epochAt}
 use Rattle.history.specs.Assertion.{BrokenByte, BrokenPair}
 use Rattle.history.specs.Transaction.{depth, Since}
-use Rattle.history.specs.Given.{windowOf, Accepted, ClaimRun}
+use Rattle.history.specs.Given.{windowOf, Accepted, ClaimRun, reported}
 use Rattle.tables.specs.Give.{giveOf}
 use Rattle.engine.specs.declared.Closing.the-variants.{Totals}
 use Rattle.engine.specs.Call.{closeOf}
-use Rattle.engine.specs.Given.{reported}
+use Rattle.judge.specs.declared.Verdict.the-variants.{Accepted as Totalled}
+use Rattle.judge.specs.Verdict.{verdictOf}
 use Rattle.claims.specs.After.{runFrom, takenFrom, answersFrom}
+use Rattle.claims.specs.Traces.{GivenSingly}
 
 pub record Demand3 : Type 0 where
   -- the answers meet the claim: each event is refused by the first number that applies, or no number applies and its finding's
@@ -49,3 +51,7 @@ pub record Demand3 : Type 0 where
   -- the totals at closing: the accepted events, the fences among them, and the findings other than none
   pub totals : (asked : ℕ) (given : List Record) → let h = takenFrom asked given in depth h ≡ 0 →
       closeOf (runFrom asked given) ≡ Totals (length h) (epochAt h (length h)) (reported (answersFrom asked given))
+  -- the findings area of an accepted trace holds, for each record in order, the finding that its event gets when the trace's events
+  -- are given singly from the fresh window that the trace is judged from
+  pub traces : (trace area : List ℕ) {events fences findings : ℕ} → verdictOf trace area ≡ Totalled events fences findings →
+      GivenSingly trace area events fences findings

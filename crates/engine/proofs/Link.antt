@@ -8,13 +8,13 @@ use Rattle.event.specs.Window.{mostLines}
 use Rattle.history.specs.History.{History}
 use Rattle.history.specs.Interval.{intervalOf}
 use Rattle.history.specs.View.{ofHistory}
-use Rattle.history.specs.Given.{accepted, answers}
+use Rattle.history.specs.Given.{accepted, answers, reported}
 use Rattle.tables.specs.declared.Run.{Run}
 use Rattle.tables.specs.Table.{entry}
 use Rattle.tables.specs.View.{intervalFrom, ofRun}
 use Rattle.tables.specs.Give.{nextOf}
 use Rattle.engine.specs.Call.{emptyRun}
-use Rattle.engine.specs.Given.{runAfter, outcomes, reported}
+use Rattle.engine.specs.Given.{runAfter, outcomes}
 use Rattle.engine.specs.Tracks.{Tracks}
 use Rattle.engine.proofs.Epochs.{interval-from}
 use Rattle.engine.proofs.OneEvent.{Follows, findings-next, follows-next}

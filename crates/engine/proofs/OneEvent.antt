@@ -10,21 +10,21 @@ use lib.ListN.{length}
 use Rattle.event.specs.declared.Record.{Record}
 use Rattle.event.specs.declared.Finding.{Finding}
 use Rattle.event.specs.declared.Answer.the-variants.{Found}
+use Rattle.event.specs.Numbers.{isNone}
 use Rattle.event.specs.Window.{mostLines, windowBytes, lineOf}
 use Rattle.history.specs.History.{History, is, stores, fences, storesLine, writesBackLine, logsByte}
 use Rattle.history.specs.Interval.{epochAt, lastStore, intervalOf}
 use Rattle.history.specs.Transaction.{depth, depthAfter, outermost}
 use Rattle.history.specs.View.{View, ofHistory}
 use Rattle.history.specs.Found.{isOpen}
-use Rattle.history.specs.Given.{Accepted}
+use Rattle.history.specs.Given.{Accepted, counts}
 use Rattle.history.proofs.Interval.{last-store-stores}
 use Rattle.history.proofs.Meaning.Events.{epoch-next}
 use Rattle.history.proofs.Meaning.Accepted.{Taken}
 use Rattle.tables.specs.declared.Run.{Run}
 use Rattle.tables.specs.View.{linesOf, ofRun}
-use Rattle.tables.specs.Next.{oneMore, isNone, closes, countsAfter, tablesAfter}
+use Rattle.tables.specs.Next.{oneMore, closes, countsAfter, tablesAfter}
 use Rattle.tables.specs.Give.{nextOf}
-use Rattle.engine.specs.Given.{counts}
 use Rattle.engine.specs.Tracks.{Tracks}
 use Rattle.engine.proofs.Histories.{last-next, count-within, accepted-within, taken-inside}
 use Rattle.engine.proofs.Epochs.{closing, closing-unstored}

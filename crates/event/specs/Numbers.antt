@@ -1,5 +1,7 @@
 -- The paper's numbers: the kind of an event, the kind and the fields of a finding, the number of a refusal.
+use mathlib.Core.Bool.{Bool}
 use Prim.Native.Nat.{ℕ}
+use lib.Dec.{eqb}
 use Rattle.event.specs.declared.Event.{Event}
 use Rattle.event.specs.declared.Event.the-variants.{Store, WriteBack, Fence, Begin, Log, End, Persisted, Ordered}
 use Rattle.event.specs.declared.Finding.{Finding}
@@ -33,6 +35,10 @@ fieldsOf (Clean lost) = fieldsWith 5 lost 0 0 0
 fieldsOf (WrittenTwice lost) = fieldsWith 6 lost 0 0 0
 fieldsOf (LoggedTwice lost) = fieldsWith 7 lost 0 0 0
 fieldsOf Empty = fieldsWith 8 0 0 0 0
+
+-- the finding is "none"
+abbrev pub isNone : Finding → Bool
+isNone f = eqb (fieldsOf f .kind) 0
 
 abbrev pub numberOf : Refusal → ℕ
 numberOf TraceTooShort = 1

@@ -77,6 +77,10 @@ limitsCheck empty past = cond empty (Refused EmptyRange) (cond past (Refused Pas
 abbrev pub rangeCheck : ℕ → Event → Check
 rangeCheck lines e = limitsCheck (anyRange isEmpty (rangesOf e)) (anyRange (isPast lines) (rangesOf e))
 
--- 4: lines outside 1 to 64
+-- lines outside 1 to 64
+abbrev pub badLines : ℕ → Bool
+badLines lines = eqb lines 0 || ltb mostLines lines
+
+-- 4: so many lines are no window
 abbrev pub linesCheck : ℕ → Check
-linesCheck lines = cond (eqb lines 0 || ltb mostLines lines) (Refused BadLines) Passed
+linesCheck lines = cond (badLines lines) (Refused BadLines) Passed

@@ -40,11 +40,11 @@ checked (x ∷ xs) = go (x .broken) refl (firstBroken xs) (checked xs)
     go false e (Breaks y) (Checked.first k) = Checked.first (First.later e k)
 
 -- so the answer to an event is the number that applies first, or its finding
-first-broken : {limits : List Limit} {x : Refusal} → First limits x → firstBroken limits ≡ Breaks x
+pub first-broken : {limits : List Limit} {x : Refusal} → First limits x → firstBroken limits ≡ Breaks x
 first-broken (First.here e) = rw e
 first-broken (First.later e k) = rw e (first-broken k)
 
-none-broken : {limits : List Limit} → NoneBroken limits → firstBroken limits ≡ Passed
+pub none-broken : {limits : List Limit} → NoneBroken limits → firstBroken limits ≡ Passed
 none-broken NoneBroken.nil = refl
 none-broken (NoneBroken.cons e k) = rw e (none-broken k)
 

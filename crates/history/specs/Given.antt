@@ -1,6 +1,7 @@
 -- Events given one after another, refused ones among them: the accepted part, the answers, and the claim over the whole list.
+use mathlib.Core.Bool.{cond}
 use mathlib.Core.List.{List, [], _∷_}
-use Prim.Native.Nat.{ℕ}
+use Prim.Native.Nat.{ℕ, _+_}
 use Rattle.event.specs.declared.Record.{Record}
 use Rattle.event.specs.declared.Finding.{Finding}
 use Rattle.event.specs.declared.Refusal.{Refusal}
@@ -8,6 +9,7 @@ use Rattle.event.specs.declared.Check.{Check}
 use Rattle.event.specs.declared.Check.the-variants.{Passed, Refused as Breaks}
 use Rattle.event.specs.declared.Answer.{Answer}
 use Rattle.event.specs.declared.Answer.the-variants.{Refused, Found}
+use Rattle.event.specs.Numbers.{isNone}
 use Rattle.event.specs.Window.{linesCheck}
 use Rattle.history.specs.History.{History}
 use Rattle.history.specs.View.{ofHistory}
@@ -54,6 +56,16 @@ accepted lines h (r ∷ given) = accepted lines (after (answerOf lines h r) r h)
 unfoldable pub answers : ℕ → History → List Record → List Answer
 answers lines h [] = []
 answers lines h (r ∷ given) = answerOf lines h r ∷ answers lines (after (answerOf lines h r) r h) given
+
+-- one for a finding other than none
+abbrev pub counts : Answer → ℕ
+counts (Refused x) = 0
+counts (Found f) = cond (isNone f) 0 1
+
+-- how many findings other than none there are among the answers
+unfoldable pub reported : List Answer → ℕ
+reported [] = 0
+reported (a ∷ rest) = counts a + reported rest
 
 -- the single claim over the whole list: each event is refused by the first number that applies, and the history is then as it
 -- was; or no number applies, and its finding's claim is true

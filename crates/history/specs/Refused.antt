@@ -30,7 +30,7 @@ pub record Limit : Type 0 where
   pub broken : Bool
   pub number : Refusal
 
-abbrev limit : Bool → Refusal → Limit
+abbrev pub limit : Bool → Refusal → Limit
 limit broken number = record { broken = broken; number = number }
 
 -- the limits on an event, in order

@@ -9,8 +9,9 @@ use Rattle.event.specs.declared.Range.{Range}
 use Rattle.event.specs.declared.Event.{Event}
 use Rattle.event.specs.declared.Event.the-variants.{Store, WriteBack, Fence, Begin, Log, End, Persisted, Ordered}
 use Rattle.event.specs.declared.Finding.{Finding}
+use Rattle.event.specs.Numbers.{isNone}
 use Rattle.tables.specs.declared.Counts.{Counts}
-use Rattle.tables.specs.Next.{oneMore, isNone, countsAfter}
+use Rattle.tables.specs.Next.{oneMore, countsAfter}
 
 module _ (c : Counts) (f : Finding) (findings : ℕ) (counted : findings ≡ cond (isNone f) (c .findings) (oneMore (c .findings))) where
   -- the numbers with one more event, and these

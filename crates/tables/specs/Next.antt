@@ -6,7 +6,7 @@ use Rattle.event.specs.declared.Range.{Range}
 use Rattle.event.specs.declared.Event.{Event}
 use Rattle.event.specs.declared.Event.the-variants.{Store, WriteBack, Fence, Begin, Log, End, Persisted, Ordered}
 use Rattle.event.specs.declared.Finding.{Finding}
-use Rattle.event.specs.Numbers.{fieldsOf}
+use Rattle.event.specs.Numbers.{isNone}
 use Rattle.event.specs.Window.{windowBytes, lineOf}
 use Rattle.history.specs.History.{stores, fences, begins}
 use Rattle.history.specs.Transaction.{depthAfter}
@@ -23,10 +23,6 @@ numberOf counts = suc (counts .events)
 -- one more, in 16 bits
 abbrev pub oneMore : ℕ → ℕ
 oneMore n = suc n % 2 ^ 16
-
--- the finding is "none"
-abbrev pub isNone : Finding → Bool
-isNone f = eqb (fieldsOf f .kind) 0
 
 -- the numbers after the event, which got this finding
 unfoldable pub countsAfter : Counts → Event → Finding → Counts

@@ -10,11 +10,12 @@ ghost use mathlib.Core.Path.{_≡_};
 ghost use mathlib.Core.Bool.{cond};
 ghost use Prim.Native.Nat.{_≤_};
 ghost use Rattle.event.specs.declared.Check.the-variants.{Passed};
+ghost use Rattle.event.specs.Numbers.{isNone};
 ghost use Rattle.event.specs.Window.{rangeEnd};
 ghost use Rattle.history.specs.Refused.{refusalBy};
 ghost use Rattle.tables.specs.Table.{filledBytes, filledLines};
 ghost use Rattle.tables.specs.View.{runOf, limitsOf, ofRun};
-ghost use Rattle.tables.specs.Next.{oneMore, isNone, countsAfter, tablesAfter};
+ghost use Rattle.tables.specs.Next.{oneMore, countsAfter, tablesAfter};
 
 // The count of findings other than none, with one more finding.
 fn findings_after(n: u16, f: Finding) -> u16

@@ -7,7 +7,7 @@ use Rattle.event.specs.declared.Event.the-variants.{Store, WriteBack, Log, Pers
 use Rattle.history.specs.Found.{findingBy}
 use Rattle.tables.specs.View.{runOf}
 use Rattle.tables.proofs.Tests.{persisted-found, end-found, ordered-tables}
-use Rattle.tables.proofs.Passed.{passed, first-range, second-range}
+use Rattle.tables.proofs.Passed.{passes, first-range, second-range}
 use Rattle.tables.proofs.findings.finding_of.Statement.{statement}
 use Rattle.tables.proofs.findings.finding_of.Tie as tie
 
@@ -39,13 +39,13 @@ enum-told-3 : tie.Need-enum-told-3
 enum-told-3 c = search needs
 
 of-end-requires : tie.Need-of-end-requires
-of-end-requires c κs = let s = c .before .before in passed (s .args .counts) (s .args .e) (s .pre) .events
+of-end-requires c κs = let s = c .before .before in passes (s .args .counts) (s .args .e) (s .pre) .room
 
 enum-known-e-4 : tie.Need-enum-known-e-4
 enum-known-e-4 c = search needs
 
 of-persisted-requires : tie.Need-of-persisted-requires
-of-persisted-requires c κs = let k = c .before in let s = k .before .before in (passed (s .args .counts) (s .args .e) (s .pre) .events, first-range (s .args .counts) (Persisted (k .e4 .given .0 .0)) (k .e4 .given .0 .0) [] refl (rw (k .e4 .given .1) at (s .pre)))
+of-persisted-requires c κs = let k = c .before in let s = k .before .before in (passes (s .args .counts) (s .args .e) (s .pre) .room, first-range (s .args .counts) (Persisted (k .e4 .given .0 .0)) (k .e4 .given .0 .0) [] refl (rw (k .e4 .given .1) at (s .pre)))
 
 enum-known-e-5 : tie.Need-enum-known-e-5
 enum-known-e-5 c = search needs

@@ -3,12 +3,14 @@
 use native.Mathlib.Omega.{arith}
 use borrow.Author.Needs.{needs}
 use Rattle.tables.proofs.Numbers.{after-store, after-back, after-fence, after-outer, after-inner, after-log, after-end, after-persisted, after-ordered}
-use Rattle.tables.proofs.Passed.{passed, begin-below, end-inside}
+use Rattle.limits.proofs.Passed.{begin-below, end-inside}
+use Rattle.tables.specs.View.{linesOf}
+use Rattle.tables.proofs.Passed.{passes}
 use Rattle.tables.proofs.updates.counts_after.Statement.{statement}
 use Rattle.tables.proofs.updates.counts_after.Tie as tie
 
 add-number : tie.Need-add-number
-add-number c = omega (arith, passed (c .args .counts) (c .args .e) (c .pre) .events)
+add-number c = omega (arith, passes (c .args .counts) (c .args .e) (c .pre) .room)
 
 findings-after-requires : tie.Need-findings-after-requires
 findings-after-requires c κs = search needs
@@ -26,13 +28,13 @@ enum-told-3 : tie.Need-enum-told-3
 enum-told-3 c = search needs
 
 add-t36 : tie.Need-add-t36
-add-t36 c = let s = c .before .before .before in omega (arith, begin-below (s .args .counts) (rw (c .enum-told3 .given .1) at (s .pre)))
+add-t36 c = let s = c .before .before .before in let k = s .args .counts in omega (arith, begin-below (linesOf k) (k .events) (k .depth) (rw (c .enum-told3 .given .1) at (s .pre)))
 
 enum-told-4 : tie.Need-enum-told-4
 enum-told-4 c = search needs
 
 sub-t48 : tie.Need-sub-t48
-sub-t48 c = let s = c .before .before .before in end-inside (s .args .counts) (rw (c .enum-told4 .given .1) at (s .pre))
+sub-t48 c = let s = c .before .before .before in let k = s .args .counts in end-inside (linesOf k) (k .events) (k .depth) (rw (c .enum-told4 .given .1) at (s .pre))
 
 enum-told-5 : tie.Need-enum-told-5
 enum-told-5 c = search needs

@@ -9,7 +9,7 @@ use Rattle.event.specs.declared.Event.the-variants.{Store, WriteBack, Log}
 use Rattle.tables.specs.View.{runOf}
 use Rattle.tables.specs.Next.{tablesAfter}
 use Rattle.tables.proofs.Tests.{fence-closed}
-use Rattle.tables.proofs.Passed.{passed, first-range}
+use Rattle.tables.proofs.Passed.{passes, first-range}
 use Rattle.tables.proofs.updates.update.Statement.{statement}
 use Rattle.tables.proofs.updates.update.Tie as tie
 
@@ -17,7 +17,7 @@ enum-known-e : tie.Need-enum-known-e
 enum-known-e c = search needs
 
 add-store : tie.Need-add-store
-add-store c = let s = c .before .before .before .before in omega (arith, passed (s .args .counts) (s .args .e) (s .pre) .events)
+add-store c = let s = c .before .before .before .before in omega (arith, passes (s .args .counts) (s .args .e) (s .pre) .room)
 
 store-requires : tie.Need-store-requires
 store-requires c κs = let k = c .before .before .before .before .before .before in let s = k .before .before in first-range (s .args .counts) (Store (k .e .given .0 .0)) (k .e .given .0 .0) [] refl (rw (k .e .given .1) at (s .pre))
@@ -26,7 +26,7 @@ enum-known-e-2 : tie.Need-enum-known-e-2
 enum-known-e-2 c = search needs
 
 add-fill-lines : tie.Need-add-fill-lines
-add-fill-lines c = let s = c .before .before .before .before .before in omega (arith, passed (s .args .counts) (s .args .e) (s .pre) .events)
+add-fill-lines c = let s = c .before .before .before .before .before in omega (arith, passes (s .args .counts) (s .args .e) (s .pre) .room)
 
 fill-lines-requires : tie.Need-fill-lines-requires
 fill-lines-requires c κs = let k = c .before .before .before in let s = k .before .before in first-range (s .args .counts) (WriteBack (k .e2 .given .0 .0)) (k .e2 .given .0 .0) [] refl (rw (k .e2 .given .1) at (s .pre))
@@ -47,7 +47,7 @@ enum-known-e-3 : tie.Need-enum-known-e-3
 enum-known-e-3 c = search needs
 
 add-fill-bytes : tie.Need-add-fill-bytes
-add-fill-bytes c = let s = c .before .before .before .before .before in omega (arith, passed (s .args .counts) (s .args .e) (s .pre) .events)
+add-fill-bytes c = let s = c .before .before .before .before .before in omega (arith, passes (s .args .counts) (s .args .e) (s .pre) .room)
 
 fill-bytes-requires : tie.Need-fill-bytes-requires
 fill-bytes-requires c κs = let k = c .before .before .before in let s = k .before .before in first-range (s .args .counts) (Log (k .e3 .given .0 .0)) (k .e3 .given .0 .0) [] refl (rw (k .e3 .given .1) at (s .pre))

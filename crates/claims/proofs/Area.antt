@@ -1,0 +1,69 @@
+-- Records that are all taken: their events are the accepted ones, and each finding's bytes stand at its event's place.
+use mathlib.Core.Path.{_≡_, refl, ap, _∙_}
+use mathlib.Core.List.{List, [], _∷_, _++_, map}
+use Prim.Native.Nat.{ℕ, suc, _+_, _*_}
+use native.Mathlib.Omega.{arith}
+use lib.ListN.{length, take, drop}
+use lib.Seq.{drop-append-add}
+use Rattle.event.specs.declared.Record.{Record as Event}
+use Rattle.event.specs.declared.Finding.{Finding}
+use Rattle.event.specs.declared.Parsed.{Parsed}
+use Rattle.event.specs.declared.Parsed.the-variants.{Record}
+use Rattle.event.specs.Codec.{findingBytes}
+use Rattle.history.specs.History.{History}
+use Rattle.history.specs.View.{ofHistory}
+use Rattle.history.specs.Found.{findingBy}
+use Rattle.history.specs.Given.{Accepted, accepted, answers}
+use Rattle.history.proofs.Given.{answer-found}
+use Rattle.trace.specs.Records.{eventsOf}
+use Rattle.judge.specs.Verdict.{findingSize, findingsBytes}
+use Rattle.claims.specs.Traces.{Takes}
+
+-- records that are all taken are events
+pub takes-events : {lines : ℕ} {h : History} {records : List Parsed} {all : History} →
+    Takes lines h records all → records ≡ map Record (eventsOf records)
+unfolding eventsOf
+takes-events Takes.done = refl
+takes-events (Takes.takes {r = r} k rest) = ap (λ (l : List Parsed). Record r ∷ l) (takes-events rest)
+
+-- and these are the accepted ones
+pub takes-accepted : {lines : ℕ} {h : History} {records : List Parsed} {all : History} →
+    Takes lines h records all → accepted lines h (eventsOf records) ≡ all
+unfolding eventsOf accepted
+takes-accepted Takes.done = refl
+takes-accepted {lines} {h} (Takes.takes {r = r} k rest) = rw (answer-found lines h r k, accepted) (takes-accepted rest)
+
+-- their findings take 12 bytes each
+pub findings-length : {lines : ℕ} {h : History} {records : List Parsed} {all : History} →
+    Takes lines h records all → let given = eventsOf records in length (findingsBytes given (answers lines h given)) ≡ findingSize * length given
+unfolding eventsOf answers findingsBytes
+findings-length Takes.done = refl
+findings-length {lines} {h} (Takes.takes {r = r} k rest) = rw (answer-found lines h r k) (omega (arith, findings-length rest))
+
+-- to pass n + 1 findings is to pass the first and then n
+past-finding : (f : Finding) (site : ℕ) (bytes : List ℕ) (n : ℕ) →
+    drop (findingSize * suc n) (findingBytes f site ++ bytes) ≡ drop (findingSize * n) bytes
+past-finding f site bytes n =
+    let place : findingSize * suc n ≡ findingSize + findingSize * n = omega arith in
+    rw place (drop-append-add (findingBytes f site) bytes (findingSize * n))
+
+-- an event after others, all taken after the history: it is accepted after those before it, and its finding stands at its place
+pub record Placed (lines : ℕ) (h : History) (before rest : List Event) (r : Event) (after : List ℕ) : Type 0 where
+  pub takes : Accepted lines (accepted lines h before) r
+  pub bytes : let given = before ++ r ∷ rest in
+      take findingSize (drop (findingSize * length before) (findingsBytes given (answers lines h given) ++ after)) ≡
+      findingBytes (findingBy (ofHistory lines (accepted lines h before)) (r .event)) (r .site)
+
+pub placed : {lines : ℕ} {h all : History} (before rest : List Event) (r : Event) (after : List ℕ) →
+    Takes lines h (map Record (before ++ r ∷ rest)) all → Placed lines h before rest r after
+unfolding accepted answers findingsBytes
+placed {lines} {h} [] rest r after (Takes.takes k more) = record { takes = k; bytes = rw (answer-found lines h r k) refl }
+placed {lines} {h} (b ∷ before) rest r after (Takes.takes k more) =
+    let next = placed before rest r after more in
+    let given = before ++ r ∷ rest in
+    let bytes = findingsBytes given (answers lines (b ∷ h) given) ++ after in
+    let past = past-finding (findingBy (ofHistory lines h) (b .event)) (b .site) bytes (length before) in
+    record {
+      takes = rw (answer-found lines h b k, accepted) (next .takes);
+      bytes = rw (answer-found lines h b k, accepted) (ap (take findingSize) past ∙ next .bytes);
+    }

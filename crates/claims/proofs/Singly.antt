@@ -1,0 +1,168 @@
+-- An accepted trace: its findings area and its totals are those of its events given singly.
+use mathlib.Core.Path.{_≡_, sym, ap, _∙_, subst}
+use mathlib.Core.Bool.{Bool, cond}
+use mathlib.Core.Logic.{inl, inr}
+use mathlib.Core.List.{List, [], _∷_, _++_, map}
+use Prim.Native.Nat.{ℕ, _*_, _≤_}
+use native.Mathlib.Decide.{ℕ-discrete as decEq}
+use native.Mathlib.Omega.{arith}
+use lib.ListN.{length, take, drop, length-append, length-drop, length-map}
+use lib.Seq.{drop-at}
+use borrow.Author.Tests.{ltb-false}
+use Rattle.event.specs.declared.Record.{Record as Event}
+use Rattle.event.specs.declared.Refusal.{Refusal}
+use Rattle.event.specs.declared.Refusal.the-variants.{BadLines}
+use Rattle.event.specs.declared.Check.{Check}
+use Rattle.event.specs.declared.Check.the-variants.{Passed, Refused as Breaks}
+use Rattle.event.specs.declared.Finding.{Finding}
+use Rattle.event.specs.declared.Answer.the-variants.{Found}
+use Rattle.event.specs.declared.Parsed.the-variants.{Record}
+use Rattle.event.specs.Codec.{findingBytes}
+use Rattle.event.specs.Window.{linesCheck}
+use Rattle.history.specs.History.{History}
+use Rattle.history.specs.Interval.{epochAt}
+use Rattle.history.specs.Transaction.{depth}
+use Rattle.history.specs.View.{ofHistory}
+use Rattle.history.specs.Refused.{NoneBroken}
+use Rattle.history.specs.Found.{findingBy}
+use Rattle.history.specs.Given.{windowFor, windowOf, Accepted, accepted, answers, reported}
+use Rattle.tables.specs.Give.{giveOf}
+use Rattle.engine.specs.declared.Closing.the-variants.{Totals}
+use Rattle.engine.specs.Call.{closeOf}
+use Rattle.trace.specs.declared.TraceCheck.{TraceCheck}
+use Rattle.trace.specs.declared.TraceCheck.the-variants.{Passed as AllPass}
+use Rattle.trace.specs.Trailer.{trailerOf}
+use Rattle.trace.specs.Records.{recordPart, linesIn, recordsIn, eventsIn}
+use Rattle.trace.proofs.Lines.{window-lines}
+use Rattle.trace.proofs.RecordsNext.{records-counted}
+use Rattle.judge.specs.declared.Verdict.the-variants.{Refused as RefusedAt, Accepted as Totalled}
+use Rattle.judge.specs.Verdict.{findingSize, areaSize, traceLimits, traceCheck, historyOf, answersOf, verdictFor, verdictOf, findingsBytes, areaFor, areaAfter}
+use Rattle.claims.specs.After.{runFrom}
+use Rattle.claims.specs.Traces.{Takes, GivenSingly}
+use Rattle.claims.proofs.Answers.{Limited, limited, same, taken, closing-totals}
+use Rattle.claims.proofs.Traces.{Decided, records-decided, trace-refused, record-refused, trace-open, trace-passed}
+use Rattle.claims.proofs.Area.{takes-events, takes-accepted, findings-length, placed}
+
+module _ (lines : ℕ) (passed : linesCheck lines ≡ Passed) where
+  -- a window that is not refused has the lines asked for
+  asked-lines : windowOf lines ≡ lines
+  asked-lines = ap (λ (c : Check). windowFor c lines) passed
+
+  -- so the accepted events in that many lines give the finding of an event and the totals
+  singly-found : (before : List Event) (r : Event) → Accepted lines (accepted lines [] before) r →
+      giveOf (runFrom lines before) r .answer ≡ Found (findingBy (ofHistory lines (accepted lines [] before)) (r .event))
+  singly-found before r =
+      subst
+      (λ (w : ℕ). Accepted w (accepted w [] before) r →
+      giveOf (runFrom lines before) r .answer ≡ Found (findingBy (ofHistory w (accepted w [] before)) (r .event)))
+      asked-lines
+      (taken lines before r)
+
+  singly-totals : (given : List Event) → let h = accepted lines [] given in depth h ≡ 0 →
+      closeOf (runFrom lines given) ≡ Totals (length h) (epochAt h (length h)) (reported (answers lines [] given))
+  singly-totals given =
+      subst
+      (λ (w : ℕ). let h = accepted w [] given in depth h ≡ 0 →
+      closeOf (runFrom lines given) ≡ Totals (length h) (epochAt h (length h)) (reported (answers w [] given)))
+      asked-lines
+      (λ d. closing-totals lines given d ∙ (rw (same lines given)))
+
+-- no limit is broken, the records are all taken, and no transaction is open then
+record AllTaken (trace area : List ℕ) : Type 0 where
+  limits : NoneBroken (traceLimits trace area)
+  history : History
+  takes : Takes (linesIn trace) [] (recordsIn trace) history
+  closed : depth history ≡ 0
+
+-- so it is with an accepted trace
+all-taken : (trace area : List ℕ) {events fences findings : ℕ} → verdictOf trace area ≡ Totalled events fences findings →
+    AllTaken trace area
+all-taken trace area {events} {fences} {findings} e = go (limited (traceLimits trace area)) (records-decided (linesIn trace) 1 [] (recordsIn trace))
+  where
+    not-refused : {x : Refusal} {n : ℕ} → verdictOf trace area ≡ RefusedAt x n → ⊥
+    not-refused k = let z : _≡_ {A = ℕ} 0 1 = cc in omega arith
+
+    close : (h : History) → NoneBroken (traceLimits trace area) → Takes (linesIn trace) [] (recordsIn trace) h → Dec (depth h ≡ 0) →
+        AllTaken trace area
+    close h k t (yes d) = record { limits = k; history = h; takes = t; closed = d }
+    close h k t (no d) = absurd (not-refused (trace-open trace area k t d .0))
+
+    go : Limited (traceLimits trace area) → Decided (linesIn trace) 1 [] (recordsIn trace) → AllTaken trace area
+    go (inl (x, k)) more = absurd (not-refused (trace-refused trace area k .0))
+    go (inr k) (inl (x, n, s)) = absurd (not-refused (record-refused trace area k s .0))
+    go (inr k) (inr (h, t)) = close h k t (decEq (depth h) 0)
+
+-- limit 4 is not broken: the window is not refused
+lines-passed : (trace area : List ℕ) → NoneBroken (traceLimits trace area) → linesCheck (linesIn trace) ≡ Passed
+lines-passed trace area (NoneBroken.cons a (NoneBroken.cons b (NoneBroken.cons c (NoneBroken.cons d e)))) =
+    ap (λ (t : Bool). cond t (Breaks BadLines) Passed) (window-lines (trailerOf trace) d)
+
+-- limit 14 is not broken: the area is large enough
+area-fits : (trace area : List ℕ) → NoneBroken (traceLimits trace area) → areaSize trace ≤ length area
+area-fits trace area (NoneBroken.cons a (NoneBroken.cons b (NoneBroken.cons c (NoneBroken.cons d (NoneBroken.cons e (NoneBroken.cons f g)))))) =
+    ltb-false (length area) (areaSize trace) f
+
+module _ (trace area : List ℕ) (t : AllTaken trace area) where
+  -- nothing refuses the trace
+  passes : traceCheck trace area ≡ AllPass
+  passes = trace-passed trace area (t .limits) (t .takes) (t .closed)
+
+  -- the totals are those of its events
+  totalled : let h = historyOf trace in verdictOf trace area ≡ Totalled (length h) (epochAt h (length h)) (reported (answersOf trace))
+  unfolding verdictOf
+  totalled = ap (λ (c : TraceCheck). verdictFor c (historyOf trace) (answersOf trace)) passes
+
+  -- the area holds their findings, and then what it held
+  area-holds : areaAfter trace area ≡ findingsBytes (eventsIn trace) (answersOf trace) ++ drop (areaSize trace) area
+  unfolding areaAfter
+  area-holds = ap (λ (c : TraceCheck). areaFor c trace area) passes
+
+  -- there are as many events as the trailer counts
+  events-count : length (eventsIn trace) ≡ trailerOf trace .count
+  events-count =
+      sym (length-map (eventsIn trace) Record) ∙ ap length (sym (takes-events (t .takes))) ∙
+      records-counted (trailerOf trace .count) (recordPart (trailerOf trace .offset) trace)
+
+  -- so their findings take 12 × count bytes
+  findings-size : length (findingsBytes (eventsIn trace) (answersOf trace)) ≡ areaSize trace
+  findings-size = findings-length (t .takes) ∙ ap (λ (n : ℕ). findingSize * n) events-count
+
+  -- the area's length and the bytes beyond do not change
+  area-size : length (areaAfter trace area) ≡ length area
+  area-size =
+      let fits = area-fits trace area (t .limits) in
+      rw (area-holds, length-append, length-drop, findings-size) (omega arith)
+
+  area-beyond : drop (areaSize trace) (areaAfter trace area) ≡ drop (areaSize trace) area
+  area-beyond =
+      rw area-holds (drop-at (findingsBytes (eventsIn trace) (answersOf trace)) (drop (areaSize trace) area) (areaSize trace) findings-size)
+
+  -- each finding stands at its event's place
+  area-finding : (before rest : List Event) (r : Event) → eventsIn trace ≡ before ++ r ∷ rest →
+      (f : Finding) × (giveOf (runFrom (linesIn trace) before) r .answer ≡ Found f) ×
+      (take findingSize (drop (findingSize * length before) (areaAfter trace area)) ≡ findingBytes f (r .site))
+  area-finding before rest r e =
+      let events : recordsIn trace ≡ map Record (before ++ r ∷ rest) = takes-events (t .takes) ∙ ap (map Record) e in
+      let p = placed before rest r (drop (areaSize trace) area) (rw events at (t .takes)) in (
+        findingBy (ofHistory (linesIn trace) (accepted (linesIn trace) [] before)) (r .event),
+        singly-found (linesIn trace) (lines-passed trace area (t .limits)) before r (p .takes),
+        rw (area-holds, e) (p .bytes),
+      )
+
+-- the findings and the totals of an accepted trace
+pub given-singly : (trace area : List ℕ) {events fences findings : ℕ} → verdictOf trace area ≡ Totalled events fences findings →
+    GivenSingly trace area events fences findings
+given-singly trace area {events} {fences} {findings} e =
+    let t = all-taken trace area e in
+    let passed = lines-passed trace area (t .limits) in
+    let verdict = totalled trace area t in
+    let closed : depth (historyOf trace) ≡ 0 = ap depth (takes-accepted (t .takes)) ∙ t .closed in
+    let totals = singly-totals (linesIn trace) passed (eventsIn trace) closed in
+    record {
+      records = takes-events (t .takes);
+      window = passed;
+      finding = area-finding trace area t;
+      beyond = area-beyond trace area t;
+      size = area-size trace area t;
+      totals = cc;
+    }

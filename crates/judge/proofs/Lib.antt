@@ -1,0 +1,6 @@
+-- Laws of the pass over the records of a trace.
+pub mod Placed  -- bytes put into an area one after another
+pub mod OneRecord  -- one record given to a run, and its finding put into the area
+pub mod RecordsLeft  -- the records that are left after some were given
+pub mod Whole  -- the pass over an accepted trace
+pub mod Order  -- the checks of a trace in their order

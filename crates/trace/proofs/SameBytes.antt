@@ -1,0 +1,43 @@
+-- Two strings compared byte by byte from the front.
+use mathlib.Core.Path.{_≡_, refl, sym, ap, _∙_}
+use mathlib.Core.Bool.{Bool, true, false, _&&_}
+use mathlib.Core.Logic.{_≢_}
+use mathlib.Core.List.{List, [], _∷_}
+use Prim.Native.Nat.{ℕ, zero, suc, _≤_, _<_}
+use native.Mathlib.Omega.{arith}
+use lib.Dec.{eqb}
+use lib.ListN.{length, getD, drop, drop-of-length-le}
+use lib.Seq.{drop-cons}
+use borrow.Author.Tests.{eq-eqb, ne-eqb}
+use Rattle.trace.specs.Trailer.{sameBytes}
+
+-- strings of different lengths differ
+pub differ-in-length : (a b : List ℕ) → length a ≢ length b → sameBytes a b ≡ false
+unfolding sameBytes
+differ-in-length [] [] k = absurd (k refl)
+differ-in-length [] (y ∷ b) k = refl
+differ-in-length (x ∷ a) [] k = refl
+differ-in-length (x ∷ a) (y ∷ b) k = go (eqb x y) (differ-in-length a b (λ e. k (ap suc e)))
+  where
+    go : (t : Bool) {u : Bool} → u ≡ false → t && u ≡ false
+    go true e = e
+    go false e = refl
+
+module _ (a b : List ℕ) (i : ℕ) where
+  -- where both go on, their next bytes and the rest decide
+  next : i < length a → i < length b →
+      sameBytes (drop i a) (drop i b) ≡ eqb (getD a i 0) (getD b i 0) && sameBytes (drop (suc i) a) (drop (suc i) b)
+  unfolding sameBytes
+  next k l = rw (drop-cons a i 0 k, drop-cons b i 0 l)
+
+  pub same-next : i < length a → i < length b → getD a i 0 ≡ getD b i 0 →
+      sameBytes (drop i a) (drop i b) ≡ sameBytes (drop (suc i) a) (drop (suc i) b)
+  same-next k l e = next k l ∙ (rw (eq-eqb (getD a i 0) (getD b i 0) e))
+
+  pub differ-next : i < length a → i < length b → getD a i 0 ≢ getD b i 0 → sameBytes (drop i a) (drop i b) ≡ false
+  differ-next k l e = next k l ∙ (rw (ne-eqb (getD a i 0) (getD b i 0) e))
+
+  -- where both have ended, they are the same
+  pub both-ended : length a ≤ i → length b ≤ i → sameBytes (drop i a) (drop i b) ≡ true
+  unfolding sameBytes
+  both-ended k l = rw (drop-of-length-le a {i = i} k, drop-of-length-le b {i = i} l)

@@ -1,0 +1,40 @@
+-- The records of a trace, refused or taken one after another, and its closing.
+use mathlib.Core.Bool.{cond}
+use mathlib.Core.List.{List, [], _∷_}
+use Prim.Native.Nat.{ℕ, suc}
+use lib.Dec.{eqb}
+use Rattle.event.specs.declared.Refusal.the-variants.{TransactionOpen}
+use Rattle.event.specs.declared.Check.{Check}
+use Rattle.event.specs.declared.Check.the-variants.{Passed as Fits, Refused as Breaks}
+use Rattle.event.specs.declared.Parsed.{Parsed}
+use Rattle.event.specs.declared.Parsed.the-variants.{Record, Refused as Unread}
+use Rattle.history.specs.History.{History}
+use Rattle.history.specs.Transaction.{depth}
+use Rattle.history.specs.View.{ofHistory}
+use Rattle.history.specs.Refused.{refusalBy}
+use Rattle.limits.specs.declared.Taken.{Taken}
+use Rattle.limits.specs.declared.Taken.the-variants.{Refused as NotTaken}
+use Rattle.limits.specs.Limits.{takenBy}
+use Rattle.trace.specs.declared.TraceCheck.{TraceCheck}
+use Rattle.trace.specs.declared.TraceCheck.the-variants.{Passed, Refused}
+
+-- where the check of a record's event passes, the rest decides
+abbrev pub unlessBroken : Check → ℕ → TraceCheck → TraceCheck
+unlessBroken Fits n rest = rest
+unlessBroken (Breaks x) n rest = Refused x n
+
+-- the records from number n on, after the history: the first that is refused, by 6 or 7 from its bytes or by 8 to 12 from its event,
+-- and its number; else 13 if a transaction is open then, with the number 0
+unfoldable pub checkFrom : (lines n : ℕ) → History → List Parsed → TraceCheck
+checkFrom lines n h [] = cond (eqb (depth h) 0) Passed (Refused TransactionOpen 0)
+checkFrom lines n h (Unread x ∷ rest) = Refused x n
+checkFrom lines n h (Record r ∷ rest) = unlessBroken (refusalBy (ofHistory lines h) (r .event)) n (checkFrom lines (suc n) (r ∷ h) rest)
+
+-- all records of a trace, from a fresh window
+abbrev pub checkAll : ℕ → List Parsed → TraceCheck
+checkAll lines records = checkFrom lines 1 [] records
+
+-- the record given to the numbers that the limits ask for
+abbrev pub takenRecord : (lines events depth : ℕ) → Parsed → Taken
+takenRecord lines events depth (Record r) = takenBy lines events depth (r .event)
+takenRecord lines events depth (Unread x) = NotTaken x

@@ -1,0 +1,102 @@
+// The trailer of a trace: the last 16 bytes. Numbers are least significant byte first.
+use crate::Opened;
+use crate::Trailer;
+use event::Check;
+use event::Refusal;
+use event::codec;
+use event::window;
+ghost use mathlib.Core.Path.{_≡_};
+ghost use mathlib.Core.Bool.{not};
+ghost use Prim.Native.Nat.{_≤_};
+ghost use lib.Dec.{eqb};
+ghost use lib.ListN.{length};
+ghost use Rattle.trace.specs.Trailer.{sameBytes, u32At, hasMark, trailerFrom, badWindow, endOf, openedOf};
+
+// Whether two strings have the same bytes.
+fn same_bytes(a: &[u8], b: &[u8]) -> bool
+    ensures { λ r. ⌜ r ≡ sameBytes (now (a .entry)) (now (b .entry)) ⌝ }
+{
+    if a.len() != b.len() {
+        return false;
+    }
+    let mut i = 0;
+    while i < a.len() {
+        if a[i] != b[i] {
+            return false;
+        }
+        i += 1;
+    }
+    true
+}
+
+// Whether the trailer starts with the mark.
+fn has_mark(t: &[u8]) -> bool
+    requires { ⌜ 4 ≤ length (now t) ⌝ }
+    ensures { λ r. ⌜ r ≡ hasMark (now (t .entry)) ⌝ }
+{
+    same_bytes(&t[..4], b"PTRA")
+}
+
+// The u32 at a place of the trailer.
+fn u32_at(t: &[u8], at: u8) -> u32
+    ensures { λ r. ⌜ r ≡ u32At (now (t .entry)) at ⌝ }
+{
+    let i = at as usize;
+    let low = codec::u16_at(t, i);
+    let high = codec::u16_at(t, i + 2);
+    (low as u32) + 65536 * (high as u32)
+}
+
+// The trailer after its mark.
+fn read_trailer(t: &[u8]) -> Trailer
+    ensures { λ r. ⌜ r ≡ trailerFrom (now (t .entry)) ⌝ }
+{
+    Trailer {
+        offset: u32_at(t, 4),
+        count: u32_at(t, 8),
+        lines: codec::u16_at(t, 12),
+        zero: codec::u16_at(t, 14),
+    }
+}
+
+// Whether the lines are no window's, or the zero field is set.
+fn is_bad_window(t: Trailer) -> bool
+    ensures { λ r. ⌜ r ≡ badWindow t ⌝ }
+{
+    match window::check_lines(t.lines) {
+        Check::Refused(_) => true,
+        Check::Passed => t.zero != 0,
+    }
+}
+
+// Whether the records and the trailer end where the trace ends: offset + 12 × count + 16 is the length.
+fn ends_at(t: Trailer, len: usize) -> bool
+    ensures { λ r. ⌜ r ≡ eqb (endOf t) len ⌝ }
+{
+    (t.offset as usize) + 12 * (t.count as usize) + 16 == len
+}
+
+// The trailer, or the first of the limits 1 to 5 that the trace breaks.
+pub fn open(s: &[u8]) -> Opened
+    ensures { λ r. ⌜ r ≡ openedOf (now (s .entry)) ⌝ }
+{
+    if s.len() < 16 {
+        return Opened::Refused(Refusal::TraceTooShort);
+    }
+    if 65536 < s.len() {
+        return Opened::Refused(Refusal::TraceTooLong);
+    }
+    let at = s.len() - 16;
+    let bytes = &s[at..];
+    if !has_mark(bytes) {
+        return Opened::Refused(Refusal::MarkDiffers);
+    }
+    let t = read_trailer(bytes);
+    if is_bad_window(t) {
+        return Opened::Refused(Refusal::BadLines);
+    }
+    if !ends_at(t, s.len()) {
+        return Opened::Refused(Refusal::LengthDiffers);
+    }
+    Opened::Known(t)
+}
