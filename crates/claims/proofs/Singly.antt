@@ -29,14 +29,14 @@ use Rattle.history.specs.Given.{windowFor, windowOf, Accepted, accepted, answer
 use Rattle.tables.specs.Give.{giveOf}
 use Rattle.engine.specs.declared.Closing.the-variants.{Totals}
 use Rattle.engine.specs.Call.{closeOf}
-use Rattle.trace.specs.declared.TraceCheck.{TraceCheck}
 use Rattle.trace.specs.declared.TraceCheck.the-variants.{Passed as AllPass}
 use Rattle.trace.specs.Trailer.{trailerOf}
 use Rattle.trace.specs.Records.{recordPart, linesIn, recordsIn, eventsIn}
 use Rattle.trace.proofs.Lines.{window-lines}
 use Rattle.trace.proofs.RecordsNext.{records-counted}
 use Rattle.judge.specs.declared.Verdict.the-variants.{Refused as RefusedAt, Accepted as Totalled}
-use Rattle.judge.specs.Verdict.{findingSize, areaSize, traceLimits, traceCheck, historyOf, answersOf, verdictFor, verdictOf, findingsBytes, areaFor, areaAfter}
+use Rattle.judge.specs.Verdict.{findingSize, areaSize, traceLimits, traceCheck, historyOf, answersOf, verdictOf, findingsBytes, areaAfter}
+use Rattle.judge.proofs.Order.{totalled, area-holds}
 use Rattle.claims.specs.After.{runFrom}
 use Rattle.claims.specs.Traces.{Takes, GivenSingly}
 use Rattle.claims.proofs.Answers.{Limited, limited, same, taken, closing-totals}
@@ -107,16 +107,6 @@ module _ (trace area : List ℕ) (t : AllTaken trace area) where
   passes : traceCheck trace area ≡ AllPass
   passes = trace-passed trace area (t .limits) (t .takes) (t .closed)
 
-  -- the totals are those of its events
-  totalled : let h = historyOf trace in verdictOf trace area ≡ Totalled (length h) (epochAt h (length h)) (reported (answersOf trace))
-  unfolding verdictOf
-  totalled = ap (λ (c : TraceCheck). verdictFor c (historyOf trace) (answersOf trace)) passes
-
-  -- the area holds their findings, and then what it held
-  area-holds : areaAfter trace area ≡ findingsBytes (eventsIn trace) (answersOf trace) ++ drop (areaSize trace) area
-  unfolding areaAfter
-  area-holds = ap (λ (c : TraceCheck). areaFor c trace area) passes
-
   -- there are as many events as the trailer counts
   events-count : length (eventsIn trace) ≡ trailerOf trace .count
   events-count =
@@ -131,11 +121,11 @@ module _ (trace area : List ℕ) (t : AllTaken trace area) where
   area-size : length (areaAfter trace area) ≡ length area
   area-size =
       let fits = area-fits trace area (t .limits) in
-      rw (area-holds, length-append, length-drop, findings-size) (omega arith)
+      rw (area-holds trace area passes, length-append, length-drop, findings-size) (omega arith)
 
   area-beyond : drop (areaSize trace) (areaAfter trace area) ≡ drop (areaSize trace) area
   area-beyond =
-      rw area-holds (drop-at (findingsBytes (eventsIn trace) (answersOf trace)) (drop (areaSize trace) area) (areaSize trace) findings-size)
+      rw (area-holds trace area passes) (drop-at (findingsBytes (eventsIn trace) (answersOf trace)) (drop (areaSize trace) area) (areaSize trace) findings-size)
 
   -- each finding stands at its event's place
   area-finding : (before rest : List Event) (r : Event) → eventsIn trace ≡ before ++ r ∷ rest →
@@ -146,7 +136,7 @@ module _ (trace area : List ℕ) (t : AllTaken trace area) where
       let p = placed before rest r (drop (areaSize trace) area) (rw events at (t .takes)) in (
         findingBy (ofHistory (linesIn trace) (accepted (linesIn trace) [] before)) (r .event),
         singly-found (linesIn trace) (lines-passed trace area (t .limits)) before r (p .takes),
-        rw (area-holds, e) (p .bytes),
+        rw (area-holds trace area passes, e) (p .bytes),
       )
 
 -- the findings and the totals of an accepted trace
@@ -155,7 +145,7 @@ pub given-singly : (trace area : List ℕ) {events fences findings : ℕ} → ve
 given-singly trace area {events} {fences} {findings} e =
     let t = all-taken trace area e in
     let passed = lines-passed trace area (t .limits) in
-    let verdict = totalled trace area t in
+    let verdict = totalled trace area (passes trace area t) in
     let closed : depth (historyOf trace) ≡ 0 = ap depth (takes-accepted (t .takes)) ∙ t .closed in
     let totals = singly-totals (linesIn trace) passed (eventsIn trace) closed in
     record {

@@ -21,7 +21,8 @@ use Rattle.trace.specs.declared.TraceCheck.the-variants.{Passed, Refused}
 use Rattle.trace.specs.Records.{linesIn, recordsIn}
 use Rattle.trace.specs.Checked.{unlessBroken, checkFrom, checkAll}
 use Rattle.judge.specs.declared.Verdict.the-variants.{Refused as RefusedAt}
-use Rattle.judge.specs.Verdict.{traceLimits, traceCheck, verdictOf, areaAfter}
+use Rattle.judge.specs.Verdict.{traceLimits, traceCheck, verdictOf}
+use Rattle.judge.proofs.Order.{refuses, area-stays, totalled}
 use Rattle.claims.specs.Traces.{Stops, Takes, Rejected}
 use Rattle.claims.proofs.Answers.{Limited, limited}
 
@@ -57,8 +58,7 @@ records-decided lines n h (Record r ∷ rest) = go (limited (limitsBy (ofHistory
 module _ (trace area : List ℕ) where
   -- what the check refuses is rejected
   rejected : {x : Refusal} {n : ℕ} → traceCheck trace area ≡ Refused x n → Rejected trace area x n
-  unfolding verdictOf areaAfter
-  rejected e = (rw e, rw e)
+  rejected e = (refuses trace area e, area-stays trace area e)
 
   -- a limit on trace and area is broken
   pub trace-refused : {x : Refusal} → First (traceLimits trace area) x → Rejected trace area x 0
@@ -86,9 +86,7 @@ module _ (trace area : List ℕ) where
   -- so no number refuses the trace
   pub trace-taken : {h : History} (x : Refusal) (n : ℕ) → NoneBroken (traceLimits trace area) →
       Takes (linesIn trace) [] (recordsIn trace) h → depth h ≡ 0 → verdictOf trace area ≢ RefusedAt x n
-  unfolding verdictOf
   trace-taken x n k t d e =
-      let passed = trace-passed k t d in
-      let other = rw passed at e in
+      let accepts = totalled trace area (trace-passed k t d) in
       let z : _≡_ {A = ℕ} 0 1 = cc in
       absurd (omega arith)

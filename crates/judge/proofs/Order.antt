@@ -5,7 +5,7 @@ use mathlib.Core.List.{List, [], _∷_, _++_}
 use Prim.Native.Nat.{ℕ, _*_, _≤_, _<_}
 use native.Mathlib.Omega.{arith}
 use lib.ListN.{length, drop}
-use borrow.Author.Tests.{lt-ltb, le-ltb, ltb-false}
+use borrow.Author.Tests.{lt-ltb, le-ltb}
 use Rattle.event.specs.declared.Refusal.{Refusal}
 use Rattle.event.specs.declared.Refusal.the-variants.{AreaTooShort}
 use Rattle.event.specs.declared.Check.{Check}
@@ -19,7 +19,6 @@ use Rattle.limits.proofs.Passed.{none-broken}
 use Rattle.tables.specs.declared.Counts.{Counts}
 use Rattle.engine.specs.Call.{emptyRun}
 use Rattle.trace.specs.declared.Trailer.{Trailer}
-use Rattle.trace.specs.declared.Opened.{Opened}
 use Rattle.trace.specs.declared.Opened.the-variants.{Refused as NotOpened, Known}
 use Rattle.trace.specs.declared.TraceCheck.{TraceCheck}
 use Rattle.trace.specs.declared.TraceCheck.the-variants.{Refused as RefusedAt, Passed}
@@ -99,9 +98,16 @@ module _ (s area : List ℕ) where
         go (NoneBroken.cons a (NoneBroken.cons b (NoneBroken.cons c (NoneBroken.cons d e)))) = few-lines (linesIn s) (window-lines (trailerOf s) d)
 
   -- where the check refuses the trace, so does the judge, and the area stays as it was
+  pub refuses : {x : Refusal} {n : ℕ} → traceCheck s area ≡ RefusedAt x n → verdictOf s area ≡ Refused x n
+  unfolding verdictOf
+  refuses e = rw e
+
+  pub area-stays : {x : Refusal} {n : ℕ} → traceCheck s area ≡ RefusedAt x n → areaAfter s area ≡ area
+  unfolding areaAfter
+  area-stays e = rw e
+
   pub rejected : {x : Refusal} {n : ℕ} → traceCheck s area ≡ RefusedAt x n → (Refused x n ≡ verdictOf s area) × (area ≡ areaAfter s area)
-  unfolding verdictOf areaAfter
-  rejected e = (rw e, rw e)
+  rejected e = (sym (refuses e), sym (area-stays e))
 
   -- where it passes, the judge answers with the totals of the trace's events, and the area holds their findings and then what it held
   pub totalled : traceCheck s area ≡ Passed →

@@ -1,14 +1,11 @@
 -- What the judge answers to a trace and a findings area, and what the area then holds: read off the bytes, by what the accepted
 -- events say.
-use mathlib.Core.Bool.{Bool}
 use mathlib.Core.List.{List, [], _∷_, _++_}
 use Prim.Native.Nat.{ℕ, _*_}
 use lib.Dec.{ltb}
 use lib.ListN.{length, drop}
 use Rattle.event.specs.declared.Record.{Record}
 use Rattle.event.specs.declared.Refusal.the-variants.{AreaTooShort}
-use Rattle.event.specs.declared.Check.{Check}
-use Rattle.event.specs.declared.Check.the-variants.{Passed as Fits, Refused as Breaks}
 use Rattle.event.specs.declared.Answer.{Answer}
 use Rattle.event.specs.declared.Answer.the-variants.{Refused as NoFinding, Found}
 use Rattle.event.specs.Codec.{findingBytes}

@@ -1,13 +1,10 @@
 -- `limits::take_event` meets its contract: an event that passes has room for its number and for its transaction.
 -- Assumes nothing.
-use mathlib.Core.Path.{_≡_}
 use native.Mathlib.Omega.{arith}
 use native.Mathlib.Numerals.{add-one}
 use borrow.Author.Needs.{needs}
-use Rattle.event.specs.declared.Check.the-variants.{Passed}
 use Rattle.event.proofs.Laws.{equal-by}
-use Rattle.history.specs.Refused.{refusalBy}
-use Rattle.limits.specs.Limits.{numbersOf, takenBy}
+use Rattle.limits.specs.Limits.{takenBy}
 use Rattle.limits.proofs.Passed.{Passes, passed}
 use Rattle.limits.proofs.take_event.Statement.{statement}
 use Rattle.limits.proofs.take_event.Tie as tie

@@ -1,11 +1,10 @@
 -- `trace::opening::same_bytes` meets its contract. The loop's invariant: what is left of the two strings decides. The measure is how
 -- many bytes are left. Assumes nothing.
 use mathlib.Core.Path.{_≡_, refl, sym, _∙_}
-use Prim.Native.Nat.{suc, _+_, _-_, _≤_}
+use Prim.Native.Nat.{_-_, _≤_}
 use native.Mathlib.Omega.{arith}
 use native.Mathlib.Numerals.{add-one}
 use lib.ListN.{length, drop}
-use borrow.Author.Needs.{needs}
 use Rattle.trace.specs.Trailer.{sameBytes}
 use Rattle.trace.proofs.SameBytes.{differ-in-length, same-next, differ-next, both-ended}
 use Rattle.trace.proofs.opening.same_bytes.Statement.{statement}
