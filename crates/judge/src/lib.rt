@@ -24,11 +24,11 @@ pub enum Verdict {
 }
 
 // The first pass over the records checks them, the second one judges them, so that a refused trace leaves the area as it was.
-pub fn judge(s: &[u8], area: &mut [u8]) -> Verdict
-    ensures { λ v. ⌜ v ≡ verdictOf (now (s .entry)) (now (area .entry)) ⌝ }
-    ensures { λ v. ⌜ now (area .exit) ≡ areaAfter (now (s .entry)) (now (area .entry)) ⌝ }
+pub fn judge(trace: &[u8], area: &mut [u8]) -> Verdict
+    ensures { λ v. ⌜ v ≡ verdictOf (now (trace .entry)) (now (area .entry)) ⌝ }
+    ensures { λ v. ⌜ now (area .exit) ≡ areaAfter (now (trace .entry)) (now (area .entry)) ⌝ }
 {
-    match opening::open(s) {
+    match opening::open(trace) {
         Opened::Refused(x) => Verdict::Refused {
             refusal: x,
             record: 0,
@@ -40,7 +40,7 @@ pub fn judge(s: &[u8], area: &mut [u8]) -> Verdict
                     record: 0,
                 };
             }
-            let part = records::part(s, t.offset);
+            let part = records::part(trace, t.offset);
             match records::check_records(part, t.count, t.lines) {
                 TraceCheck::Refused { refusal, record } => Verdict::Refused { refusal, record },
                 TraceCheck::Passed => {

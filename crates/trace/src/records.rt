@@ -66,22 +66,23 @@ pub fn check_records(records: &[u8], count: u32, lines: u16) -> TraceCheck
     let mut depth: u16 = 0;
     let mut i: u32 = 0;
     while i < count {
+        let number = i + 1;
         match take_record(records, i, lines, events, depth) {
             Taken::Refused(x) => {
                 return TraceCheck::Refused {
                     refusal: x,
-                    record: i + 1,
+                    record: number,
                 };
             }
             Taken::Next {
-                events: number,
+                events: taken,
                 depth: open,
             } => {
-                events = number;
+                events = taken;
                 depth = open;
             }
         }
-        i += 1;
+        i = number;
     }
     if depth == 0 {
         return TraceCheck::Passed;

@@ -14,7 +14,7 @@ abbrev start : (c : tie.After-t) → tie.Start
 start c = c .before .before .before .before .before
 
 -- the trailer that was read
-known : (c : tie.After-t) → openedOf (start c .args .s .now) ≡ Known (c .t .given .0 .0)
+known : (c : tie.After-t) → openedOf (start c .args .trace .now) ≡ Known (c .t .given .0 .0)
 known c = equal-by (c .before .before .«open» .ensures) (c .t .given .1)
 
 open-requires : tie.Need-open-requires
@@ -36,7 +36,7 @@ returns : tie.Need-returns
 returns c =
     let w = c .before in
     let k = start (w .before .before) .args in
-    rejected (k .s .now) (k .area .now) (refused-area (k .s .now) (k .area .now) (known (w .before .before)) (c .if1 .taken))
+    rejected (k .trace .now) (k .area .now) (refused-area (k .trace .now) (k .area .now) (known (w .before .before)) (c .if1 .taken))
 
 part-requires : tie.Need-part-requires
 part-requires c κs = search needs
@@ -57,7 +57,7 @@ returns-2 : tie.Need-returns-2
 returns-2 c =
     let o = c .before .before .before in
     let k = o .before .before .before .args in
-    rejected (k .s .now) (k .area .now) (refused-trailer (k .s .now) (k .area .now) (equal-by (o .«open» .ensures) (c .before .x .given .1)))
+    rejected (k .trace .now) (k .area .now) (refused-trailer (k .trace .now) (k .area .now) (equal-by (o .«open» .ensures) (c .before .x .given .1)))
 
 returns-3 : tie.Need-returns-3
 returns-3 c =
@@ -65,8 +65,8 @@ returns-3 c =
     let i = r .before .before in
     let o = i .before .before .before in
     let k = start o .args in
-    rejected (k .s .now) (k .area .now)
-    (refused-record (k .s .now) (k .area .now) (known o) (i .if1 .left) (r .before .part .ensures) (r .check-records .ensures)
+    rejected (k .trace .now) (k .area .now)
+    (refused-record (k .trace .now) (k .area .now) (known o) (i .if1 .left) (r .before .part .ensures) (r .check-records .ensures)
     (c .before .refusal .given .1))
 
 same-length : tie.Need-same-length
@@ -80,7 +80,7 @@ returns-4 c =
     let i = r .before .before in
     let o = i .before .before .before in
     let k = start o .args in
-    accepted-trace (k .s .now) (k .area .now) (known o) (i .if1 .left) (r .before .part .ensures) (r .check-records .ensures)
+    accepted-trace (k .trace .now) (k .area .now) (known o) (i .if1 .left) (r .before .part .ensures) (r .check-records .ensures)
     (e .enum-told .given .1) (j .judge-records .ensures .0) (j .judge-records .ensures .1)
 
 pub judge-spec : {M : Type 1} → statement M

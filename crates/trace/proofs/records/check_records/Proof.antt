@@ -19,51 +19,44 @@ abbrev μ-loop : tie.MeasureT-loop
 loop-holds : tie.Need-loop-holds Inv-loop μ-loop
 loop-holds c = let k = c .before .args in (omega arith, all-left (k .lines) (k .count) (k .records .now))
 
+add-number : tie.Need-add-number Inv-loop μ-loop
+add-number c = search needs
+
 take-record-requires : tie.Need-take-record-requires Inv-loop μ-loop
 take-record-requires c κs = search needs
 
 enum-known-x : tie.Need-enum-known-x Inv-loop μ-loop
 enum-known-x c = search needs
 
-add-t12 : tie.Need-add-t12 Inv-loop μ-loop
-add-t12 c = omega arith
-
 returns : tie.Need-returns Inv-loop μ-loop
-returns c =
-    let w = c .before .before .before in
+returns c = let w = c .before .before .before in
     let l = w .before .before in
     let k = l .before .before .args in
     refused-left (k .lines) (k .count) (k .records .now) (l .loop .i) (l .loop .events) (l .loop .depth) (omega arith) (w .take-record .ensures)
     (c .before .x .given .1) ∙ l .loop .inv .1
 
-enum-known-number : tie.Need-enum-known-number Inv-loop μ-loop
-enum-known-number c = search needs
-
-add-i : tie.Need-add-i Inv-loop μ-loop
-add-i c = omega arith
+enum-known-taken : tie.Need-enum-known-taken Inv-loop μ-loop
+enum-known-taken c = search needs
 
 loop-less : tie.Need-loop-less Inv-loop μ-loop
 loop-less c = omega arith
 
 loop-again : tie.Need-loop-again Inv-loop μ-loop
-loop-again c =
-    let w = c .before .before .before in
+loop-again c = let w = c .before .before .before in
     let l = w .before .before in
     let k = l .before .before .args in (
       omega arith,
       taken-left (k .lines) (k .count) (k .records .now) (l .loop .i) (l .loop .events) (l .loop .depth) (omega arith)
-          (w .take-record .ensures) (c .before .number .given .1) ∙ l .loop .inv .1,
+          (w .take-record .ensures) (c .before .taken .given .1) ∙ l .loop .inv .1,
     )
 
 returns-2 : tie.Need-returns-2 Inv-loop μ-loop
-returns-2 c =
-    let l = c .before .before in
+returns-2 c = let l = c .before .before in
     let k = l .before .before .args in
     closed (k .lines) (k .count) (k .records .now) (l .loop .i) (l .loop .events) (l .loop .depth) (omega arith) (c .if1 .taken) ∙ l .loop .inv .1
 
 returns-3 : tie.Need-returns-3 Inv-loop μ-loop
-returns-3 c =
-    let l = c .before .before in
+returns-3 c = let l = c .before .before in
     let k = l .before .before .args in
     not-closed (k .lines) (k .count) (k .records .now) (l .loop .i) (l .loop .events) (l .loop .depth) (omega arith) (c .if1 .left) ∙ l .loop .inv .1
 
@@ -74,12 +67,11 @@ check-records-spec =
     Inv-loop
     μ-loop
     loop-holds
+    add-number
     take-record-requires
     enum-known-x
-    add-t12
     returns
-    enum-known-number
-    add-i
+    enum-known-taken
     loop-less
     loop-again
     returns-2
