@@ -5,7 +5,6 @@ use event::Range;
 use event::Record;
 use event::Refusal;
 use event::window;
-use tables::Counts;
 use tables::Given;
 use tables::Run;
 ghost use mathlib.Core.Path.{_≡_};
@@ -40,16 +39,7 @@ fn empty_run(lines: u16) -> Run
     ensures { λ r. ⌜ r ≡ emptyRun lines ⌝ }
 {
     Run {
-        counts: Counts {
-            lines,
-            events: 0,
-            fences: 0,
-            findings: 0,
-            depth: 0,
-            begin: 0,
-            store: 0,
-            fence: 0,
-        },
+        counts: tables::no_counts(lines),
         stored: [0; 4096],
         logged: [0; 4096],
         opened: [0; 4096],

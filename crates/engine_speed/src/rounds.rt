@@ -23,16 +23,7 @@ pub fn by_value() -> Counts
 pub fn in_place() -> Counts
     ensures { λ r. ⌜ r ≡ after 60000 .counts ⌝ }
 {
-    let mut counts = Counts {
-        lines: 64,
-        events: 0,
-        fences: 0,
-        findings: 0,
-        depth: 0,
-        begin: 0,
-        store: 0,
-        fence: 0,
-    };
+    let mut counts = tables::no_counts(64);
     let mut stored = [0u16; 4096];
     let mut logged = [0u16; 4096];
     let mut opened = [0u16; 4096];

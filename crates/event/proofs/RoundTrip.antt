@@ -80,7 +80,7 @@ made (suc (suc (suc (suc (suc (suc (suc (suc zero)))))))) a b k p q = record { f
 made (suc (suc (suc (suc (suc (suc (suc (suc (suc n))))))))) a b k p q = absurd (omega (arith, most-eight (suc (suc (suc (suc (suc (suc (suc (suc (suc n))))))))) k))
 
 -- the two bytes of a u16 that was read are those that it was read from
-u16-bytes : (x y : ℕ) → x < 256 → u16Bytes (x + 256 * y) ≡ x ∷ y ∷ []
+pub u16-bytes : (x y : ℕ) → x < 256 → u16Bytes (x + 256 * y) ≡ x ∷ y ∷ []
 u16-bytes x y h = ap₂ (λ (a b : ℕ). a ∷ b ∷ []) (omega arith) (omega arith)
 
 -- the layout of a record

@@ -15,7 +15,7 @@ use Rattle.event.specs.Window.{mostLines}
 use Rattle.history.specs.Interval.{epochAt}
 use Rattle.history.specs.Given.{reported}
 use Rattle.history.specs.Refused.{Limit, firstBroken, NoneBroken}
-use Rattle.limits.proofs.Passed.{none-broken}
+use Rattle.history.proofs.Given.{none-broken}
 use Rattle.tables.specs.declared.Counts.{Counts}
 use Rattle.engine.specs.Call.{emptyRun}
 use Rattle.trace.specs.declared.Trailer.{Trailer}
@@ -27,6 +27,7 @@ use Rattle.trace.specs.Records.{recordPart, recordsOf, linesIn, recordsIn, even
 use Rattle.trace.specs.Checked.{checkAll}
 use Rattle.trace.proofs.Lines.{window-lines, few-lines}
 use Rattle.trace.proofs.RecordsNext.{records-counted}
+use Rattle.trace.proofs.KnownBytes.{opened}
 use Rattle.judge.specs.declared.Verdict.the-variants.{Refused, Accepted}
 use Rattle.judge.specs.Verdict.{findingSize, areaSize, areaLimits, traceCheck, historyOf, answersOf, verdictOf, findingsBytes, areaAfter}
 use Rattle.judge.specs.Pass.{Stage, stage, recordsGiven}
@@ -62,19 +63,6 @@ module _ (s area : List ℕ) where
       go Fits k = let z : _≡_ {A = ℕ} 0 1 = cc in absurd (omega arith)
       go (Breaks y) k = cc
 
-  -- one that is known breaks none
-  record Fine (t : Trailer) : Type 0 where
-    limits : firstBroken (fileLimits s) ≡ Fits
-    trailer : trailerOf s ≡ t
-
-  opened : {t : Trailer} → openedOf s ≡ Known t → Fine t
-  unfolding openedOf
-  opened {t} e = go (firstBroken (fileLimits s)) refl e
-    where
-      go : (c : Check) → firstBroken (fileLimits s) ≡ c → openedFor c (trailerOf s) ≡ Known t → Fine t
-      go Fits f k = record { limits = f; trailer = cc }
-      go (Breaks y) f k = let z : _≡_ {A = ℕ} 0 1 = cc in absurd (omega arith)
-
   -- the trailer is refused
   pub refused-trailer : {x : Refusal} → openedOf s ≡ NotOpened x → traceCheck s area ≡ RefusedAt x 0
   refused-trailer k = rw (broken-first (fileLimits s) (areaLimits s area) (not-opened k))
@@ -82,17 +70,17 @@ module _ (s area : List ℕ) where
   module _ {t : Trailer} (known : openedOf s ≡ Known t) where
     -- the area is too short
     pub refused-area : length area < findingSize * t .count → traceCheck s area ≡ RefusedAt AreaTooShort 0
-    refused-area k = rw (broken-later (fileLimits s) (areaLimits s area) (opened known .limits), opened known .trailer, lt-ltb (length area) (findingSize * t .count) k)
+    refused-area k = rw (broken-later (fileLimits s) (areaLimits s area) (none-broken (opened s known .limits)), opened s known .trailer, lt-ltb (length area) (findingSize * t .count) k)
 
     -- else the records decide
     pub records-decide : findingSize * t .count ≤ length area → traceCheck s area ≡ checkAll (linesIn s) (recordsIn s)
     records-decide k =
-        let fits : areaSize s ≤ length area = omega (arith, ap (λ (t : Trailer). t .count) (opened known .trailer)) in
-        rw (broken-later (fileLimits s) (areaLimits s area) (opened known .limits), le-ltb (length area) (areaSize s) fits)
+        let fits : areaSize s ≤ length area = omega (arith, ap (λ (t : Trailer). t .count) (opened s known .trailer)) in
+        rw (broken-later (fileLimits s) (areaLimits s area) (none-broken (opened s known .limits)), le-ltb (length area) (areaSize s) fits)
 
     -- the window has at most 64 lines
     window-fits : linesIn s ≤ mostLines
-    window-fits = go (none-broken (fileLimits s) (opened known .limits))
+    window-fits = go (opened s known .limits)
       where
         go : NoneBroken (fileLimits s) → linesIn s ≤ mostLines
         go (NoneBroken.cons a (NoneBroken.cons b (NoneBroken.cons c (NoneBroken.cons d e)))) = few-lines (linesIn s) (window-lines (trailerOf s) d)
@@ -130,7 +118,7 @@ module _ (s area : List ℕ) where
     same-records : {A : Type 0} (f : ℕ → List Parsed → A) → f (t .lines) (recordsOf (t .count) part) ≡ f (linesIn s) (recordsIn s)
     same-records f =
         ap (λ (part : List ℕ). f (t .lines) (recordsOf (t .count) part)) is ∙
-        ap (λ (t : Trailer). f (t .lines) (recordsOf (t .count) (recordPart (t .offset) s))) (sym (opened known .trailer))
+        ap (λ (t : Trailer). f (t .lines) (recordsOf (t .count) (recordPart (t .offset) s))) (sym (opened s known .trailer))
 
     -- so their check is what refuses the trace, if anything does
     is-check : traceCheck s area ≡ c
@@ -146,7 +134,7 @@ module _ (s area : List ℕ) where
     -- leaves the totals and the findings of the trace's events, where the check passes
     leaves : c ≡ Passed → Judged (linesIn s) (recordsIn s) area (pass (linesIn s) (recordsIn s))
     leaves k =
-        let count = ap (λ (t : Trailer). t .count) (opened known .trailer) in
+        let count = ap (λ (t : Trailer). t .count) (opened s known .trailer) in
         let room : findingSize * length (recordsIn s) ≤ length area = omega (arith, fits, count, all-counted) in
         judged (linesIn s) (window-fits known) (recordsIn s) area (sym (records-decide known fits) ∙ is-check ∙ k) room
 

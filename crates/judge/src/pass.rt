@@ -71,16 +71,7 @@ pub(crate) fn judge_records(records: &[u8], count: u32, lines: u16, area: &mut [
     ensures { λ r. ⌜ r ≡ recordsGiven (recordsOf count (now (records .entry))) 0 (stage (emptyRun lines) (now (area .entry))) .run .counts ⌝ }
     ensures { λ _. ⌜ now (area .exit) ≡ recordsGiven (recordsOf count (now (records .entry))) 0 (stage (emptyRun lines) (now (area .entry))) .area ⌝ }
 {
-    let mut counts = Counts {
-        lines,
-        events: 0,
-        fences: 0,
-        findings: 0,
-        depth: 0,
-        begin: 0,
-        store: 0,
-        fence: 0,
-    };
+    let mut counts = tables::no_counts(lines);
     let mut stored = [0u16; 4096];
     let mut logged = [0u16; 4096];
     let mut opened = [0u16; 4096];

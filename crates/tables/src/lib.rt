@@ -3,7 +3,7 @@ use event::Answer;
 use event::Check;
 use event::Record;
 ghost use mathlib.Core.Path.{_≡_};
-ghost use Rattle.tables.specs.View.{linesOf, runOf};
+ghost use Rattle.tables.specs.View.{noCounts, linesOf, runOf};
 ghost use Rattle.tables.specs.Give.{outcomeOf, giveOf};
 
 mod findings; // the finding of each kind of event
@@ -64,6 +64,22 @@ pub(crate) enum Search {
 pub(crate) enum PairSearch {
     Nothing,
     At { kept: u16, lost: u16 },
+}
+
+// The numbers of a run in which nothing has happened.
+pub fn no_counts(lines: u16) -> Counts
+    ensures { λ r. ⌜ r ≡ noCounts lines ⌝ }
+{
+    Counts {
+        lines,
+        events: 0,
+        fences: 0,
+        findings: 0,
+        depth: 0,
+        begin: 0,
+        store: 0,
+        fence: 0,
+    }
 }
 
 // The window's lines, at most those of the largest window.

@@ -4,12 +4,12 @@ use mathlib.Core.Bool.{Bool, true, false, cond, not}
 use Prim.Native.Nat.{ℕ, _≤_}
 use native.Mathlib.Omega.{arith}
 use lib.Dec.{ltb, eqb}
-use borrow.Author.Tests.{ltb-false}
+use borrow.Author.Tests.{eqb-true, ltb-false}
 use Rattle.event.specs.declared.Refusal.{Refusal}
 use Rattle.event.specs.declared.Refusal.the-variants.{BadLines}
 use Rattle.event.specs.declared.Check.the-variants.{Passed, Refused}
 use Rattle.event.specs.Window.{mostLines, badLines, linesCheck}
-use Rattle.event.proofs.Bools.{contradiction, fails, or-left, or-right}
+use Rattle.event.proofs.Bools.{contradiction, fails, fails-not, or-left, or-right, not-of}
 use Rattle.trace.specs.declared.Trailer.{Trailer}
 use Rattle.trace.specs.Trailer.{badWindow}
 
@@ -26,6 +26,10 @@ lines-passed lines e = go (badLines lines) e
     go : (t : Bool) → cond t (Refused BadLines) Passed ≡ Passed → t ≡ false
     go true k = let z : _≡_ {A = ℕ} 0 1 = cc in absurd (omega arith)
     go false k = refl
+
+-- a trailer that the limit 4 does not refuse has 0 in its zero field
+pub window-zero : (t : Trailer) → badWindow t ≡ false → t .zero ≡ 0
+window-zero t e = eqb-true (t .zero) 0 (fails-not (eqb (t .zero) 0) (λ k. contradiction (or-right (badLines (t .lines)) (not-of k)) e))
 
 -- a window that the limit 4 does not refuse has at most 64 lines
 pub window-lines : (t : Trailer) → badWindow t ≡ false → badLines (t .lines) ≡ false

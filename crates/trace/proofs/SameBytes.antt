@@ -1,5 +1,5 @@
 -- Two strings compared byte by byte from the front.
-use mathlib.Core.Path.{_≡_, refl, ap, _∙_}
+use mathlib.Core.Path.{_≡_, refl, ap, ap₂, _∙_}
 use mathlib.Core.Bool.{Bool, true, false, _&&_}
 use mathlib.Core.Logic.{_≢_}
 use mathlib.Core.List.{List, [], _∷_}
@@ -7,8 +7,20 @@ use Prim.Native.Nat.{ℕ, suc, _≤_, _<_}
 use lib.Dec.{eqb}
 use lib.ListN.{length, getD, drop, drop-of-length-le}
 use lib.Seq.{drop-cons}
-use borrow.Author.Tests.{eq-eqb, ne-eqb}
+use borrow.Author.Tests.{eqb-true, eq-eqb, ne-eqb}
+use Rattle.event.proofs.Bools.{contradiction, and-left, and-right}
 use Rattle.trace.specs.Trailer.{sameBytes}
+
+-- strings with the same bytes are equal
+pub same-bytes : (a b : List ℕ) → sameBytes a b ≡ true → a ≡ b
+unfolding sameBytes
+same-bytes [] [] e = refl
+same-bytes [] (y ∷ b) e = absurd (contradiction e refl)
+same-bytes (x ∷ a) [] e = absurd (contradiction e refl)
+same-bytes (x ∷ a) (y ∷ b) e =
+    ap₂ (λ (z : ℕ) (rest : List ℕ). z ∷ rest)
+    (eqb-true x y (and-left (eqb x y) (sameBytes a b) e))
+    (same-bytes a b (and-right (eqb x y) (sameBytes a b) e))
 
 -- strings of different lengths differ
 pub differ-in-length : (a b : List ℕ) → length a ≢ length b → sameBytes a b ≡ false

@@ -19,9 +19,12 @@ abbrev μ-loop : tie.MeasureT-loop
 μ-loop counts₀ stored₀ logged₀ opened₀ closed₀ written₀ backed₀ i₀ counts stored logged opened closed written backed i =
     60000 - i
 
+no-counts-requires : tie.Need-no-counts-requires Inv-loop μ-loop
+no-counts-requires c κs = search needs
+
 loop-holds : tie.Need-loop-holds Inv-loop μ-loop
 unfolding after emptyRun
-loop-holds c = search needs
+loop-holds c = (omega arith, rw (c .no-counts .ensures))
 
 record-at-requires : tie.Need-record-at-requires Inv-loop μ-loop
 record-at-requires c κs = search needs
@@ -47,4 +50,4 @@ returns c = totals (omega arith) (c .before .loop .inv .1)
 pub in-place-spec : {M : Type 1} → statement M
 in-place-spec =
     tie.close
-    (tie.spec Inv-loop μ-loop loop-holds record-at-requires step-requires add-i loop-less loop-again returns)
+    (tie.spec Inv-loop μ-loop no-counts-requires loop-holds record-at-requires step-requires add-i loop-less loop-again returns)

@@ -1,6 +1,6 @@
 -- `judge::pass::judge_records` meets its contract. The loop's invariant: what the records that are left lead to is what all of them lead
 -- to from a fresh window. The measure is how many are left. Assumes nothing.
-use mathlib.Core.Path.{_≡_, refl, ap, _∙_}
+use mathlib.Core.Path.{_≡_, ap, _∙_}
 use Prim.Native.Nat.{_≤_, _-_}
 use native.Mathlib.Omega.{arith}
 use lib.ListN.{length}
@@ -28,9 +28,12 @@ passed c =
     let k = c .loop in
     stage (runOf (k .counts) (k .stored) (k .logged) (k .opened) (k .closed) (k .written) (k .backed)) (k .area)
 
+no-counts-requires : tie.Need-no-counts-requires Inv-loop μ-loop
+no-counts-requires c κs = search needs
+
 loop-holds : tie.Need-loop-holds Inv-loop μ-loop
 unfolding emptyRun
-loop-holds c = (omega arith, omega arith, refl)
+loop-holds c = (omega arith, omega arith, rw (c .no-counts .ensures))
 
 record-at-requires : tie.Need-record-at-requires Inv-loop μ-loop
 record-at-requires c κs = search needs
@@ -54,7 +57,7 @@ loop-again : tie.Need-loop-again Inv-loop μ-loop
 loop-again c =
     let w = c .before .before .before .before .before .before .before .before .before .before in
     let l = w .before .before in
-    let k = l .before .before .before .args in
+    let k = l .before .before .before .before .args in
     let given = c .before .before .judge-record in (
       omega arith,
       given .kept .1 .1 .1 .1 .1 .1 .1 .1 .1 .0 ∙ l .loop .inv .1,
@@ -67,7 +70,7 @@ same-length c = search needs
 returns : tie.Need-returns Inv-loop μ-loop
 returns c =
     let l = c .before .loop in
-    let k = c .before .before .before .before .args in
+    let k = c .before .before .before .before .before .args in
     let fresh = stage (emptyRun (k .lines)) (k .area .now) in
     let all = all-given (k .records .now) (k .count) (l .i) fresh (passed (c .before)) (omega arith) (l .inv .2) in
     (ap (λ (s : Stage). s .run .counts) all, ap (λ (s : Stage). s .area) all)
@@ -78,6 +81,7 @@ judge-records-spec =
     (tie.spec
     Inv-loop
     μ-loop
+    no-counts-requires
     loop-holds
     record-at-requires
     cast-at
