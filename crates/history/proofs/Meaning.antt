@@ -3,5 +3,6 @@ pub mod Events
 pub mod Intervals
 pub mod Images
 pub mod Refusals
+pub mod Totals
 pub mod Accepted
 pub mod Transactions

@@ -27,7 +27,8 @@ use Rattle.trace.specs.declared.TraceCheck.{TraceCheck}
 use Rattle.trace.specs.declared.TraceCheck.the-variants.{Passed, Refused}
 use Rattle.trace.specs.Trailer.{recordSize}
 use Rattle.trace.specs.Records.{recordsOf}
-use Rattle.trace.specs.Checked.{unlessBroken, checkFrom, checkAll, takenRecord}
+use Rattle.trace.specs.Checked.{unlessBroken, checkFrom, checkAll}
+use Rattle.trace.specs.Numbers.{takenRecord}
 use Rattle.trace.proofs.RecordsNext.{records-next}
 
 -- where a record is taken, the rest decides, on the next numbers

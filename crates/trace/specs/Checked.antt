@@ -12,13 +12,10 @@ use Rattle.history.specs.History.{History}
 use Rattle.history.specs.Transaction.{depth}
 use Rattle.history.specs.View.{ofHistory}
 use Rattle.history.specs.Refused.{refusalBy}
-use Rattle.limits.specs.declared.Taken.{Taken}
-use Rattle.limits.specs.declared.Taken.the-variants.{Refused as NotTaken}
-use Rattle.limits.specs.Limits.{takenBy}
 use Rattle.trace.specs.declared.TraceCheck.{TraceCheck}
 use Rattle.trace.specs.declared.TraceCheck.the-variants.{Passed, Refused}
 
--- where the check of a record's event passes, the rest decides
+-- where a check passes, the rest decides; where it does not, the trace is refused at number n
 abbrev pub unlessBroken : Check → ℕ → TraceCheck → TraceCheck
 unlessBroken Fits n rest = rest
 unlessBroken (Breaks x) n rest = Refused x n
@@ -33,8 +30,3 @@ checkFrom lines n h (Record r ∷ rest) = unlessBroken (refusalBy (ofHistory lin
 -- all records of a trace, from a fresh window
 abbrev pub checkAll : ℕ → List Parsed → TraceCheck
 checkAll lines records = checkFrom lines 1 [] records
-
--- the record given to the numbers that the limits ask for
-abbrev pub takenRecord : (lines events depth : ℕ) → Parsed → Taken
-takenRecord lines events depth (Record r) = takenBy lines events depth (r .event)
-takenRecord lines events depth (Unread x) = NotTaken x

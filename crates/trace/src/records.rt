@@ -10,7 +10,8 @@ ghost use lib.ListN.{drop};
 ghost use Rattle.event.specs.Codec.{parsed};
 ghost use Rattle.trace.specs.Trailer.{recordSize};
 ghost use Rattle.trace.specs.Records.{recordPart, recordsOf};
-ghost use Rattle.trace.specs.Checked.{checkAll, takenRecord};
+ghost use Rattle.trace.specs.Checked.{checkAll};
+ghost use Rattle.trace.specs.Numbers.{takenRecord};
 
 // The bytes from the offset up to the trailer; none where the offset is past them.
 pub fn part(s: &[u8], offset: u32) -> &[u8]
