@@ -22,7 +22,7 @@ use Rattle.trace.specs.Records.{linesIn, recordsIn}
 use Rattle.trace.specs.Checked.{unlessBroken, checkFrom, checkAll}
 use Rattle.judge.specs.declared.Verdict.the-variants.{Refused as RefusedAt}
 use Rattle.judge.specs.Verdict.{traceLimits, traceCheck, verdictOf}
-use Rattle.judge.proofs.Order.{refuses, area-stays, totalled}
+use Rattle.judge.proofs.Outcome.{refuses, area-stays, totalled}
 use Rattle.claims.specs.Traces.{Stops, Takes, Rejected}
 use Rattle.claims.proofs.Answers.{Limited, limited}
 

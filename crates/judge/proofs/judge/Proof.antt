@@ -5,7 +5,8 @@ use borrow.Author.Needs.{needs}
 use Rattle.event.proofs.Laws.{equal-by}
 use Rattle.trace.specs.declared.Opened.the-variants.{Known}
 use Rattle.trace.specs.Trailer.{openedOf}
-use Rattle.judge.proofs.Order.{refused-trailer, refused-area, refused-record, accepted-trace, rejected}
+use Rattle.judge.proofs.Order.{refused-trailer, refused-area}
+use Rattle.judge.proofs.Outcome.{rejected, refused-record, accepted-trace}
 use Rattle.judge.proofs.judge.Statement.{statement}
 use Rattle.judge.proofs.judge.Tie as tie
 
