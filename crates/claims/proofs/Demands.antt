@@ -1,5 +1,5 @@
 -- The demands hold.
-use mathlib.Core.Path.{_≡_, sym, ap, _∙_, subst}
+use mathlib.Core.Path.{_≡_, refl, sym, ap, _∙_, subst}
 use mathlib.Core.Logic.{_≢_, _⊎_, inl, inr}
 use mathlib.Core.List.{List, []}
 use Prim.Native.Nat.{ℕ, _+_, _≤_, _<_}
@@ -88,6 +88,7 @@ demand1 =
       byteTaken = λ asked given byte x k e. let known = byte-known asked given byte k in let z : _≡_ {A = ℕ} 0 1 = cc in absurd (omega arith);
       closingRefused = closing-refused;
       closingTaken = λ asked given x d e. let totals = closing-totals asked given d in let z : _≡_ {A = ℕ} 0 1 = cc in absurd (omega arith);
+      traceNumbers = λ trace area. refl;
       traceRefused = trace-refused;
       traceLimited = λ trace area. limited (traceLimits trace area);
       recordRefused = record-refused;

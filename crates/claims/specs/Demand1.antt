@@ -2,7 +2,7 @@
 -- number that applies, and by no number otherwise; run and findings area are then what they were.
 use mathlib.Core.Path.{_≡_}
 use mathlib.Core.Logic.{_≢_, _⊎_}
-use mathlib.Core.List.{List, []}
+use mathlib.Core.List.{List, [], _∷_, map}
 use Prim.Native.Nat.{ℕ, _≤_, _<_}
 use Rattle.event.specs.declared.Record.{Record}
 use Rattle.event.specs.declared.Finding.{Finding}
@@ -10,10 +10,11 @@ use Rattle.event.specs.declared.Refusal.{Refusal}
 use Rattle.event.specs.declared.Refusal.the-variants.{BadLines, PastWindow, TransactionOpen}
 use Rattle.event.specs.declared.Check.the-variants.{Passed, Refused as Breaks}
 use Rattle.event.specs.declared.Answer.the-variants.{Refused, Found}
+use Rattle.event.specs.Numbers.{numberOf}
 use Rattle.event.specs.Window.{mostLines, windowBytes}
 use Rattle.history.specs.History.{History}
 use Rattle.history.specs.Transaction.{depth}
-use Rattle.history.specs.Refused.{First, NoneBroken}
+use Rattle.history.specs.Refused.{Limit, First, NoneBroken}
 use Rattle.history.specs.Given.{windowOf, RefusedBy, Accepted}
 use Rattle.tables.specs.Give.{giveOf}
 use Rattle.engine.specs.declared.Asked.the-variants.{Refused as AskRefused}
@@ -49,6 +50,8 @@ pub record Demand1 : Type 0 where
   pub closingTaken : (asked : ℕ) (given : List Record) (x : Refusal) → depth (takenFrom asked given) ≡ 0 →
       closeOf (runFrom asked given) ≢ CloseRefused x
   -- a trace: the first of 1, 2, 3, 4, 5, 14 that applies, at 0
+  pub traceNumbers : (trace area : List ℕ) →
+      map (λ (l : Limit). numberOf (l .number)) (traceLimits trace area) ≡ 1 ∷ 2 ∷ 3 ∷ 4 ∷ 5 ∷ 14 ∷ []
   pub traceRefused : (trace area : List ℕ) {x : Refusal} → First (traceLimits trace area) x → Rejected trace area x 0
   pub traceLimited : (trace area : List ℕ) → ((x : Refusal) × First (traceLimits trace area) x) ⊎ NoneBroken (traceLimits trace area)
   -- else the first record that 6 to 12 refuse, at its number from 1
