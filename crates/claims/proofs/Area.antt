@@ -9,7 +9,7 @@ use Rattle.event.specs.declared.Record.{Record as Event}
 use Rattle.event.specs.declared.Finding.{Finding}
 use Rattle.event.specs.declared.Parsed.{Parsed}
 use Rattle.event.specs.declared.Parsed.the-variants.{Record}
-use Rattle.event.specs.Codec.{findingBytes}
+use Rattle.codec.specs.Codec.{findingBytes}
 use Rattle.history.specs.History.{History}
 use Rattle.history.specs.View.{ofHistory}
 use Rattle.history.specs.Found.{findingBy}

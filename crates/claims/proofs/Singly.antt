@@ -17,7 +17,7 @@ use Rattle.event.specs.declared.Check.the-variants.{Passed, Refused as Breaks}
 use Rattle.event.specs.declared.Finding.{Finding}
 use Rattle.event.specs.declared.Answer.the-variants.{Found}
 use Rattle.event.specs.declared.Parsed.the-variants.{Record}
-use Rattle.event.specs.Codec.{findingBytes}
+use Rattle.codec.specs.Codec.{findingBytes}
 use Rattle.event.specs.Window.{linesCheck}
 use Rattle.history.specs.History.{History}
 use Rattle.history.specs.Interval.{epochAt}

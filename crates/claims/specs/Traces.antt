@@ -10,7 +10,7 @@ use Rattle.event.specs.declared.Check.the-variants.{Passed}
 use Rattle.event.specs.declared.Answer.the-variants.{Found}
 use Rattle.event.specs.declared.Parsed.{Parsed}
 use Rattle.event.specs.declared.Parsed.the-variants.{Record, Refused as Unread}
-use Rattle.event.specs.Codec.{findingBytes}
+use Rattle.codec.specs.Codec.{findingBytes}
 use Rattle.history.specs.History.{History}
 use Rattle.history.specs.Given.{RefusedBy, Accepted}
 use Rattle.tables.specs.Give.{giveOf}

@@ -3,4 +3,3 @@ pub mod Bools
 pub mod Laws
 pub mod Table
 pub mod Meaning
-pub mod RoundTrip

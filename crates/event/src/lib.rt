@@ -1,6 +1,5 @@
 // What the paper names, as types: ranges, events, records, findings, refusals and intervals. The modules give the
-// paper's numbers, the window's rules and the bytes of a record and of a finding.
-pub mod codec; // a record read from bytes, a finding written as bytes
+// paper's numbers and the window's rules.
 pub mod numbers; // the paper's number for each case
 pub mod window; // the window's size, its lines, and its limits on ranges
 

@@ -5,7 +5,7 @@ use Prim.Native.Nat.{ℕ, suc, _+_, _-_, _*_, _≤_, _<_}
 use native.Mathlib.Omega.{arith}
 use lib.ListN.{drop}
 use Rattle.event.specs.declared.Parsed.{Parsed}
-use Rattle.event.specs.Codec.{parsed}
+use Rattle.codec.specs.Codec.{parsed}
 use Rattle.trace.specs.Trailer.{recordSize}
 use Rattle.trace.specs.Records.{recordsOf}
 use Rattle.trace.proofs.RecordsNext.{records-next}

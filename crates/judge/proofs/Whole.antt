@@ -13,7 +13,7 @@ use Rattle.event.specs.declared.Check.the-variants.{Passed as Fits, Refused as 
 use Rattle.event.specs.declared.Answer.the-variants.{Refused, Found}
 use Rattle.event.specs.declared.Parsed.{Parsed}
 use Rattle.event.specs.declared.Parsed.the-variants.{Record, Refused as Unread}
-use Rattle.event.specs.Codec.{findingBytes}
+use Rattle.codec.specs.Codec.{findingBytes}
 use Rattle.event.specs.Window.{mostLines}
 use Rattle.history.specs.History.{History}
 use Rattle.history.specs.Interval.{epochAt}

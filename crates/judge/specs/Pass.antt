@@ -7,7 +7,7 @@ use Rattle.event.specs.declared.Answer.{Answer}
 use Rattle.event.specs.declared.Answer.the-variants.{Refused, Found}
 use Rattle.event.specs.declared.Parsed.{Parsed}
 use Rattle.event.specs.declared.Parsed.the-variants.{Record, Refused as Unread}
-use Rattle.event.specs.Codec.{findingBytes}
+use Rattle.codec.specs.Codec.{findingBytes}
 use Rattle.tables.specs.declared.Run.{Run}
 use Rattle.tables.specs.Give.{giveOf}
 use Rattle.judge.specs.Verdict.{findingSize}

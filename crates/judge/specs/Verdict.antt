@@ -8,7 +8,7 @@ use Rattle.event.specs.declared.Record.{Record}
 use Rattle.event.specs.declared.Refusal.the-variants.{AreaTooShort}
 use Rattle.event.specs.declared.Answer.{Answer}
 use Rattle.event.specs.declared.Answer.the-variants.{Refused as NoFinding, Found}
-use Rattle.event.specs.Codec.{findingBytes}
+use Rattle.codec.specs.Codec.{findingBytes}
 use Rattle.history.specs.History.{History}
 use Rattle.history.specs.Interval.{epochAt}
 use Rattle.history.specs.Refused.{Limit, limit, firstBroken}

@@ -1,7 +1,6 @@
 // The records of an accepted trace, given one after another to tables that stand here; their findings go into the area.
 use event::Answer;
 use event::Parsed;
-use event::codec;
 use tables::Counts;
 use trace::records;
 ghost use mathlib.Core.Path.{_≡_};

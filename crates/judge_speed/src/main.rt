@@ -1,6 +1,5 @@
 // Judges the trace on standard input: once, and prints the answer and each finding; or a thousand times, for `scripts/judge-speed` to
 // time, and prints the answer.
-use event::codec;
 use event::numbers;
 use judge::Verdict;
 use libc::STDERR_FILENO;

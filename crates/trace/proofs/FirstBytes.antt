@@ -5,7 +5,7 @@ use Prim.Native.Nat.{ℕ, _<_}
 use native.Mathlib.Omega.{arith}
 use lib.ListN.{take, getD}
 use lib.Seq.{getD-take}
-use Rattle.event.specs.Codec.{parsed}
+use Rattle.codec.specs.Codec.{parsed}
 use Rattle.trace.specs.Trailer.{recordSize}
 
 -- the bytes that follow them change nothing

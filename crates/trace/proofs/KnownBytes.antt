@@ -10,8 +10,8 @@ use lib.Seq.{getD-drop}
 use borrow.Author.Tests.{not-false, eqb-true, ltb-false}
 use Rattle.event.specs.declared.Check.{Check}
 use Rattle.event.specs.declared.Check.the-variants.{Passed, Refused as Breaks}
-use Rattle.event.specs.Codec.{u16At, u16Bytes}
-use Rattle.event.proofs.RoundTrip.{u16-bytes}
+use Rattle.codec.specs.Codec.{u16At, u16Bytes}
+use Rattle.codec.proofs.RoundTrip.{u16-bytes}
 use Rattle.history.specs.Refused.{firstBroken, NoneBroken}
 use Rattle.limits.proofs.Passed.{none-broken}
 use Rattle.trace.specs.declared.Trailer.{Trailer}

@@ -9,8 +9,8 @@ use borrow.Author.Tests.{le-ltb, eq-eqb}
 use Rattle.event.specs.declared.Record.{Record as Event}
 use Rattle.event.specs.declared.Parsed.the-variants.{Record}
 use Rattle.event.specs.Window.{badLines}
-use Rattle.event.proofs.Meaning.{u16-round-trip}
-use Rattle.event.proofs.RoundTrip.{read-back}
+use Rattle.codec.proofs.Meaning.{u16-round-trip}
+use Rattle.codec.proofs.RoundTrip.{read-back}
 use Rattle.trace.specs.declared.Trailer.{Trailer}
 use Rattle.trace.specs.declared.Opened.the-variants.{Known}
 use Rattle.trace.specs.Trailer.{trailerSize, recordSize, mostBytes, u32At, trailerBytes, trailerFrom, trailerOf, sameBytes, openedOf}

@@ -4,7 +4,7 @@ use mathlib.Core.List.{List, [], _∷_, _++_}
 use Prim.Native.Nat.{ℕ, _/_, _%_}
 use lib.ListN.{length}
 use Rattle.event.specs.declared.Record.{Record}
-use Rattle.event.specs.Codec.{u16Bytes, recordBytes}
+use Rattle.codec.specs.Codec.{u16Bytes, recordBytes}
 use Rattle.trace.specs.Trailer.{mark}
 
 -- a u32 as four bytes

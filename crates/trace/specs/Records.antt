@@ -5,7 +5,7 @@ use lib.ListN.{length, take, drop}
 use Rattle.event.specs.declared.Record.{Record as Event}
 use Rattle.event.specs.declared.Parsed.{Parsed}
 use Rattle.event.specs.declared.Parsed.the-variants.{Record, Refused}
-use Rattle.event.specs.Codec.{parsed}
+use Rattle.codec.specs.Codec.{parsed}
 use Rattle.trace.specs.Trailer.{trailerSize, recordSize, trailerOf}
 
 -- the bytes from the offset up to the trailer; what precedes the offset is free

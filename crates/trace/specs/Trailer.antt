@@ -8,7 +8,7 @@ use Rattle.event.specs.declared.Refusal.the-variants.{TraceTooShort, TraceTooLo
 use Rattle.event.specs.declared.Check.{Check}
 use Rattle.event.specs.declared.Check.the-variants.{Passed, Refused as Breaks}
 use Rattle.event.specs.Window.{badLines}
-use Rattle.event.specs.Codec.{u16At}
+use Rattle.codec.specs.Codec.{u16At}
 use Rattle.history.specs.Refused.{Limit, limit, firstBroken}
 use Rattle.trace.specs.declared.Trailer.{Trailer}
 use Rattle.trace.specs.declared.Opened.{Opened}

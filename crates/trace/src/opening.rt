@@ -3,7 +3,6 @@ use crate::Opened;
 use crate::Trailer;
 use event::Check;
 use event::Refusal;
-use event::codec;
 use event::window;
 ghost use mathlib.Core.Path.{_≡_};
 ghost use Prim.Native.Nat.{_≤_};

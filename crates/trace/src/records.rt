@@ -2,12 +2,11 @@
 use crate::TraceCheck;
 use event::Parsed;
 use event::Refusal;
-use event::codec;
 use limits::Taken;
 ghost use mathlib.Core.Path.{_≡_};
 ghost use Prim.Native.Nat.{_*_};
 ghost use lib.ListN.{drop};
-ghost use Rattle.event.specs.Codec.{parsed};
+ghost use Rattle.codec.specs.Codec.{parsed};
 ghost use Rattle.trace.specs.Trailer.{recordSize};
 ghost use Rattle.trace.specs.Records.{recordPart, recordsOf};
 ghost use Rattle.trace.specs.Checked.{checkAll};

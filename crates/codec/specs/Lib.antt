@@ -1,0 +1,2 @@
+-- The bytes of a record and of a finding.
+pub mod Codec

@@ -1,0 +1,149 @@
+// The bytes of a record, read, and of a finding, written. Numbers are least significant byte first.
+use event::Event;
+use event::Finding;
+use event::Parsed;
+use event::Range;
+use event::Record;
+use event::Refusal;
+use event::numbers;
+ghost use mathlib.Core.Path.{_≡_};
+ghost use mathlib.Core.Bool.{_||_};
+ghost use Prim.Native.Nat.{_+_, _*_};
+ghost use lib.ListN.{getD};
+ghost use Rattle.codec.specs.Codec.{u16At, rangeAt, isKind, usesA, usesB, isZero, isClear, eventOf, parsed, findingBytes};
+
+// The byte at a place, 0 past the end.
+pub fn byte_at(s: &[u8], at: usize) -> u8
+    ensures { λ r. ⌜ r ≡ getD (now (s .entry)) at 0 ⌝ }
+{
+    if at < s.len() { s[at] } else { 0 }
+}
+
+// A number of two bytes, least significant first.
+fn joined(low: u8, high: u8) -> u16
+    ensures { λ r. ⌜ r ≡ low + 256 * high ⌝ }
+{
+    (low as u16) + 256 * (high as u16)
+}
+
+// The u16 at a place; bytes past the end count as 0.
+pub fn u16_at(s: &[u8], at: usize) -> u16
+    ensures { λ r. ⌜ r ≡ u16At (now (s .entry)) at ⌝ }
+{
+    if at < s.len() {
+        let low = byte_at(s, at);
+        let high = byte_at(s, at + 1);
+        joined(low, high)
+    } else {
+        0
+    }
+}
+
+// The range at a place of a record.
+fn range_at(s: &[u8], at: u8) -> Range
+    ensures { λ r. ⌜ r ≡ rangeAt (now (s .entry)) at ⌝ }
+{
+    let i = at as usize;
+    Range {
+        address: u16_at(s, i),
+        length: u16_at(s, i + 2),
+    }
+}
+
+// Whether both fields of a range are 0.
+fn is_zero(r: Range) -> bool
+    ensures { λ t. ⌜ t ≡ isZero r ⌝ }
+{
+    r.address == 0 && r.length == 0
+}
+
+// Whether the number is an event's kind.
+fn is_kind(kind: u8) -> bool
+    ensures { λ t. ⌜ t ≡ isKind kind ⌝ }
+{
+    1 <= kind && kind <= 8
+}
+
+// Whether the kind has a range A.
+fn uses_a(kind: u8) -> bool
+    ensures { λ t. ⌜ t ≡ usesA kind ⌝ }
+{
+    !(kind == 3 || kind == 4 || kind == 6)
+}
+
+// Whether the kind has a range B.
+fn uses_b(kind: u8) -> bool
+    ensures { λ t. ⌜ t ≡ usesB kind ⌝ }
+{
+    kind == 8
+}
+
+// Whether a range is used or both its fields are 0.
+fn used_or_zero(used: bool, r: Range) -> bool
+    ensures { λ t. ⌜ t ≡ (used || isZero r) ⌝ }
+{
+    used || is_zero(r)
+}
+
+// Whether the zero byte and the fields that the kind lacks are 0.
+fn is_clear(kind: u8, zero: u8, a: Range, b: Range) -> bool
+    ensures { λ t. ⌜ t ≡ isClear kind zero a b ⌝ }
+{
+    zero == 0 && used_or_zero(uses_a(kind), a) && used_or_zero(uses_b(kind), b)
+}
+
+// The event of a kind from 1 to 8.
+fn event_of(kind: u8, a: Range, b: Range) -> Event
+    ensures { λ e. ⌜ e ≡ eventOf kind a b ⌝ }
+{
+    match kind {
+        1 => Event::Store(a),
+        2 => Event::WriteBack(a),
+        3 => Event::Fence,
+        4 => Event::Begin,
+        5 => Event::Log(a),
+        6 => Event::End,
+        7 => Event::Persisted(a),
+        _ => Event::Ordered(a, b),
+    }
+}
+
+// The record in the first 12 bytes of a slice, or the refusal 6 or 7. Bytes past the end count as 0.
+pub fn read_record(s: &[u8]) -> Parsed
+    ensures { λ r. ⌜ r ≡ parsed (now (s .entry)) ⌝ }
+{
+    let kind = byte_at(s, 0);
+    if !is_kind(kind) {
+        return Parsed::Refused(Refusal::UnknownKind);
+    }
+    let a = range_at(s, 2);
+    let b = range_at(s, 6);
+    if !is_clear(kind, byte_at(s, 1), a, b) {
+        return Parsed::Refused(Refusal::FieldSet);
+    }
+    Parsed::Record(Record {
+        event: event_of(kind, a, b),
+        site: u16_at(s, 10),
+    })
+}
+
+// A finding with its site, as 12 bytes.
+pub fn finding_bytes(f: Finding, site: u16) -> [u8; 12]
+    ensures { λ r. ⌜ r ≡ findingBytes f site ⌝ }
+{
+    let x = numbers::fields(f);
+    [
+        x.kind,
+        0,
+        (x.lost % 256) as u8,
+        (x.lost / 256) as u8,
+        (x.kept % 256) as u8,
+        (x.kept / 256) as u8,
+        (x.moment % 256) as u8,
+        (x.moment / 256) as u8,
+        (x.store % 256) as u8,
+        (x.store / 256) as u8,
+        (site % 256) as u8,
+        (site / 256) as u8,
+    ]
+}
