@@ -6,12 +6,10 @@ use mathlib.Core.Logic.{_≢_}
 use Prim.Native.Nat.{ℕ, _+_, _*_, _-_, _≤_, _<_, max}
 use native.Mathlib.Omega.{arith}
 use lib.Dec.{leb, ltb}
-use lib.ListN.{length}
 use borrow.Author.Tests.{not-true, eqb-false, ne-eqb, leb-true, le-leb, ltb-true, ltb-false, lt-ltb}
 use Rattle.event.specs.declared.Range.{Range}
 use Rattle.event.specs.Window.{windowBytes, lineOf, lineStart, rangeEnd, covers, isEmpty, touches, lineCount, isPast}
 use Rattle.event.proofs.Bools.{and-left, and-right, both}
-use Rattle.event.proofs.Table.{at}
 
 -- A range covers the bytes from its address on that lie before its end.
 pub record Covered (r : Range) (byte : ℕ) : Type 0 where

@@ -14,7 +14,7 @@ ghost use Rattle.event.specs.Numbers.{isNone};
 ghost use Rattle.event.specs.Window.{rangeEnd};
 ghost use Rattle.history.specs.Refused.{refusalBy};
 ghost use Rattle.tables.specs.Table.{filledBytes, filledLines};
-ghost use Rattle.tables.specs.View.{runOf, limitsOf, ofRun};
+ghost use Rattle.tables.specs.View.{runOf, limitsOf};
 ghost use Rattle.tables.specs.Next.{oneMore, countsAfter, tablesAfter};
 
 // The count of findings other than none, with one more finding.
