@@ -93,8 +93,8 @@ all-taken trace area {events} {fences} {findings} e = go (limited (traceLimits t
     go (inr k) (inr (h, t)) = close h k t (decEq (depth h) 0)
 
 -- limit 4 is not broken: the window is not refused
-lines-passed : (trace area : List ℕ) → NoneBroken (traceLimits trace area) → linesCheck (linesIn trace) ≡ Passed
-lines-passed trace area (NoneBroken.cons a (NoneBroken.cons b (NoneBroken.cons c (NoneBroken.cons d e)))) =
+window-passed : (trace area : List ℕ) → NoneBroken (traceLimits trace area) → linesCheck (linesIn trace) ≡ Passed
+window-passed trace area (NoneBroken.cons a (NoneBroken.cons b (NoneBroken.cons c (NoneBroken.cons d e)))) =
     ap (λ (t : Bool). cond t (Breaks BadLines) Passed) (window-lines (trailerOf trace) d)
 
 -- limit 14 is not broken: the area is large enough
@@ -135,7 +135,7 @@ module _ (trace area : List ℕ) (t : AllTaken trace area) where
       let events : recordsIn trace ≡ map Record (before ++ r ∷ rest) = takes-events (t .takes) ∙ ap (map Record) e in
       let p = placed before rest r (drop (areaSize trace) area) (rw events at (t .takes)) in (
         findingBy (ofHistory (linesIn trace) (accepted (linesIn trace) [] before)) (r .event),
-        singly-found (linesIn trace) (lines-passed trace area (t .limits)) before r (p .takes),
+        singly-found (linesIn trace) (window-passed trace area (t .limits)) before r (p .takes),
         rw (area-holds trace area passes, e) (p .bytes),
       )
 
@@ -144,7 +144,7 @@ pub given-singly : (trace area : List ℕ) {events fences findings : ℕ} → ve
     GivenSingly trace area events fences findings
 given-singly trace area {events} {fences} {findings} e =
     let t = all-taken trace area e in
-    let passed = lines-passed trace area (t .limits) in
+    let passed = window-passed trace area (t .limits) in
     let verdict = totalled trace area (passes trace area t) in
     let closed : depth (historyOf trace) ≡ 0 = ap depth (takes-accepted (t .takes)) ∙ t .closed in
     let totals = singly-totals (linesIn trace) passed (eventsIn trace) closed in
