@@ -8,10 +8,11 @@ use Rattle.event.specs.declared.Range.{Range}
 use Rattle.event.specs.declared.Event.{Event}
 use Rattle.event.specs.declared.Event.the-variants.{Store, WriteBack, Fence, Begin, Log, End, Persisted, Ordered}
 use Rattle.event.specs.declared.Finding.{Finding}
+use Rattle.event.specs.declared.Fields.{Fields}
 use Rattle.event.specs.declared.Refusal.the-variants.{UnknownKind, FieldSet}
 use Rattle.event.specs.declared.Parsed.{Parsed}
 use Rattle.event.specs.declared.Parsed.the-variants.{Record, Refused}
-use Rattle.event.specs.Numbers.{kindOf, fieldsOf}
+use Rattle.event.specs.Numbers.{kindOf, fieldsWith, fieldsOf}
 use Rattle.event.specs.Window.{rangesOf}
 
 -- the u16 at a place of the bytes; bytes past their end count as 0
@@ -75,6 +76,10 @@ findingBytes f site =
     fieldsOf f .kind ∷ 0 ∷
     u16Bytes (fieldsOf f .lost) ++ u16Bytes (fieldsOf f .kept) ++ u16Bytes (fieldsOf f .moment) ++
     u16Bytes (fieldsOf f .store) ++ u16Bytes site
+
+-- the kind and the fields of a finding, read back at a place
+abbrev pub fieldsAt : List ℕ → ℕ → Fields
+fieldsAt s at = fieldsWith (getD s at 0) (u16At s (at + 2)) (u16At s (at + 4)) (u16At s (at + 6)) (u16At s (at + 8))
 
 -- a record as 12 bytes: fields that its kind lacks are 0
 abbrev pub rangeBytes : Range → List ℕ

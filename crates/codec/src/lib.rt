@@ -1,5 +1,6 @@
 // The bytes of a record, read, and of a finding, written. Numbers are least significant byte first.
 use event::Event;
+use event::Fields;
 use event::Finding;
 use event::Parsed;
 use event::Range;
@@ -10,7 +11,7 @@ ghost use mathlib.Core.Path.{_≡_};
 ghost use mathlib.Core.Bool.{_||_};
 ghost use Prim.Native.Nat.{_+_, _*_};
 ghost use lib.ListN.{getD};
-ghost use Rattle.codec.specs.Codec.{u16At, rangeAt, isKind, usesA, usesB, isZero, isClear, eventOf, parsed, findingBytes};
+ghost use Rattle.codec.specs.Codec.{u16At, rangeAt, isKind, usesA, usesB, isZero, isClear, eventOf, parsed, findingBytes, fieldsAt};
 
 // The byte at a place, 0 past the end.
 pub fn byte_at(s: &[u8], at: usize) -> u8
@@ -146,4 +147,18 @@ pub fn finding_bytes(f: Finding, site: u16) -> [u8; 12]
         (site % 256) as u8,
         (site / 256) as u8,
     ]
+}
+
+// The kind and the fields of the finding at a place; bytes past the end count as 0.
+pub fn fields_at(s: &[u8], at: u32) -> Fields
+    ensures { λ r. ⌜ r ≡ fieldsAt (now (s .entry)) at ⌝ }
+{
+    let i = at as usize;
+    Fields {
+        kind: byte_at(s, i),
+        lost: u16_at(s, i + 2),
+        kept: u16_at(s, i + 4),
+        moment: u16_at(s, i + 6),
+        store: u16_at(s, i + 8),
+    }
 }

@@ -3,6 +3,7 @@ use mathlib.Core.Path.{_≡_, ap, _∙_}
 use mathlib.Core.Bool.{Bool, true, false, not}
 use mathlib.Core.List.{List}
 use Prim.Native.Nat.{ℕ, _-_, _≤_, _<_}
+use native.Mathlib.Omega.{arith}
 use lib.Dec.{eqb}
 use lib.ListN.{length, take, drop}
 use borrow.Author.Tests.{lt-ltb, le-ltb}
@@ -13,6 +14,22 @@ use Rattle.trace.specs.Trailer.{trailerBytes, hasMark, trailerFrom, trai
 use Rattle.trace.proofs.Parts.{rest-taken}
 
 module _ (s : List ℕ) where
+  -- the last 16 bytes, as the code takes them
+  abbrev last16 : List ℕ
+  last16 = take (length s - (length s - 16)) (drop (length s - 16) s)
+
+  last16-is : last16 ≡ trailerBytes s
+  last16-is = rest-taken (length s - 16) s
+
+  -- the trailer is read from them, or from all bytes where there are fewer
+  pub last-trailer : {t : Trailer} → t ≡ trailerFrom last16 → t ≡ trailerOf s
+  unfolding trailerOf
+  last-trailer read = read ∙ ap trailerFrom last16-is
+
+  pub short-trailer : length s < 16 → {t : Trailer} → t ≡ trailerFrom s → t ≡ trailerOf s
+  unfolding trailerOf
+  short-trailer k read = let z : length s - 16 ≡ 0 = omega arith in rw z read
+
   pub too-short : length s < 16 → Refused TraceTooShort ≡ openedOf s
   unfolding openedOf
   too-short k = rw (lt-ltb (length s) 16 k)
@@ -23,13 +40,6 @@ module _ (s : List ℕ) where
     too-long k = rw (le-ltb (length s) 16 enough, lt-ltb 65536 (length s) k)
 
     module _ (few : length s ≤ 65536) where
-      -- the last 16 bytes, as the code takes them
-      abbrev last16 : List ℕ
-      last16 = take (length s - (length s - 16)) (drop (length s - 16) s)
-
-      last16-is : last16 ≡ trailerBytes s
-      last16-is = rest-taken (length s - 16) s
-
       module _ {m : Bool} (marked : m ≡ hasMark last16) where
         is-mark : m ≡ hasMark (trailerBytes s)
         is-mark = marked ∙ ap hasMark last16-is
@@ -40,8 +50,7 @@ module _ (s : List ℕ) where
 
         module _ (same : not m ≡ false) {t : Trailer} (read : t ≡ trailerFrom last16) where
           is-trailer : t ≡ trailerOf s
-          unfolding trailerOf
-          is-trailer = read ∙ ap trailerFrom last16-is
+          is-trailer = last-trailer read
 
           pub bad-lines : {b : Bool} → b ≡ badWindow t → b ≡ true → Refused BadLines ≡ openedOf s
           unfolding openedOf

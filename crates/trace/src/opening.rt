@@ -8,7 +8,7 @@ ghost use mathlib.Core.Path.{_≡_};
 ghost use Prim.Native.Nat.{_≤_};
 ghost use lib.Dec.{eqb};
 ghost use lib.ListN.{length};
-ghost use Rattle.trace.specs.Trailer.{sameBytes, u32At, hasMark, trailerFrom, badWindow, endOf, openedOf};
+ghost use Rattle.trace.specs.Trailer.{sameBytes, u32At, hasMark, trailerFrom, trailerOf, badWindow, endOf, openedOf};
 
 // Whether two strings have the same bytes.
 fn same_bytes(a: &[u8], b: &[u8]) -> bool
@@ -55,6 +55,17 @@ fn read_trailer(t: &[u8]) -> Trailer
         lines: codec::u16_at(t, 12),
         zero: codec::u16_at(t, 14),
     }
+}
+
+// The trailer after its mark, whatever the mark; of fewer than 16 bytes those that lack count as 0.
+pub fn trailer(s: &[u8]) -> Trailer
+    ensures { λ r. ⌜ r ≡ trailerOf (now (s .entry)) ⌝ }
+{
+    if s.len() < 16 {
+        return read_trailer(s);
+    }
+    let at = s.len() - 16;
+    read_trailer(&s[at..])
 }
 
 // Whether the lines are no window's, or the zero field is set.

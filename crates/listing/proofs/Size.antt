@@ -1,0 +1,99 @@
+-- No report is longer than 436,856 bytes, whatever the trace and the area.
+use mathlib.Core.Path.{_≡_, refl}
+use mathlib.Core.Bool.{Bool, true, false, cond}
+use mathlib.Core.List.{List, [], _∷_, _++_}
+use Prim.Native.Nat.{ℕ, zero, suc, _*_, _≤_, max}
+use native.Mathlib.Omega.{arith}
+use lib.ListN.{length, getD, length-append}
+use Rattle.event.specs.declared.Record.{Record}
+use Rattle.event.specs.declared.Fields.{Fields}
+use Rattle.event.specs.declared.Answer.{Answer}
+use Rattle.event.specs.declared.Answer.the-variants.{Refused as NoFinding, Found}
+use Rattle.event.specs.Numbers.{fieldsOf, numberOf}
+use Rattle.history.specs.Given.{reported}
+use Rattle.trace.specs.declared.TraceCheck.{TraceCheck}
+use Rattle.trace.specs.declared.TraceCheck.the-variants.{Passed, Refused}
+use Rattle.trace.specs.Records.{linesIn, eventsIn}
+use Rattle.judge.specs.Verdict.{traceCheck, historyOf, answersOf}
+use Rattle.listing.specs.Lines.{headLine, names, nameOf, isPrinted, field, values, columns, findingLine, footLine, refusalLine}
+use Rattle.listing.specs.Report.{lineFor, findingLines, reportFor, reportOf}
+use Rattle.listing.proofs.Decimal.{decimal-length}
+use Rattle.listing.proofs.Area.{events-few}
+
+-- the size of the longest of some texts
+abbrev longest : List (List ℕ) → ℕ
+longest [] = 0
+longest (s ∷ rest) = max (length s) (longest rest)
+
+not-longer : (texts : List (List ℕ)) (i : ℕ) → length (getD texts i []) ≤ longest texts
+not-longer [] i = omega arith
+not-longer (s ∷ rest) zero = omega arith
+not-longer (s ∷ rest) (suc i) = omega (arith, not-longer rest i)
+
+-- no name has more than 13 bytes
+name-size : (kind : ℕ) → length (nameOf kind) ≤ 13
+name-size kind = not-longer names kind
+
+-- head, foot and refusal: words and two numbers or one
+head-size : (events lines : ℕ) → length (headLine events lines) ≤ 41
+unfolding headLine
+head-size events lines = simp length-append (omega (arith, decimal-length events, decimal-length lines))
+
+foot-size : (findings : ℕ) → length (footLine findings) ≤ 15
+unfolding footLine
+foot-size findings = simp length-append (omega (arith, decimal-length findings))
+
+refusal-size : (number at : ℕ) → length (refusalLine number at) ≤ 33
+unfolding refusalLine
+refusal-size number at = simp length-append (omega (arith, decimal-length number, decimal-length at))
+
+-- a finding line: six numbers, a name, six blanks and the line feed
+columns-size : (event site : ℕ) (f : Fields) → length (columns event site f) ≤ 80
+unfolding field values columns
+columns-size event site f =
+    simp length-append
+    (omega (
+      arith,
+      decimal-length event,
+      decimal-length site,
+      name-size (f .kind),
+      decimal-length (f .lost),
+      decimal-length (f .kept),
+      decimal-length (f .moment),
+      decimal-length (f .store),
+    ))
+
+line-size : (event site : ℕ) (f : Fields) → length (findingLine event site f) ≤ 80
+unfolding findingLine
+line-size event site f = go (isPrinted (f .kind))
+  where
+    go : (b : Bool) → length (cond b (columns event site f) []) ≤ 80
+    go true = columns-size event site f
+    go false = omega arith
+
+-- one for each event at most
+lines-size : (event : ℕ) (given : List Record) (found : List Answer) → length (findingLines event given found) ≤ 80 * length given
+unfolding findingLines
+lines-size event [] found = omega arith
+lines-size event (r ∷ rest) [] = omega arith
+lines-size event (r ∷ rest) (NoFinding x ∷ found) = omega (arith, lines-size (suc event) rest found)
+lines-size event (r ∷ rest) (Found f ∷ found) =
+    simp length-append (omega (arith, line-size event (r .site) (fieldsOf f), lines-size (suc event) rest found))
+
+-- head, at most 5,460 lines, and foot
+parts-size : (head lines foot : List ℕ) → length head ≤ 41 → length lines ≤ 80 * 5460 → length foot ≤ 15 → length (head ++ lines ++ foot) ≤ 436856
+parts-size head lines foot h k l = simp length-append (omega arith)
+
+pub report-size : (trace area : List ℕ) → length (reportOf trace area) ≤ 436856
+unfolding reportOf
+report-size trace area = go (traceCheck trace area) refl
+  where
+    go : (c : TraceCheck) → traceCheck trace area ≡ c → length (reportFor c trace) ≤ 436856
+    go Passed e =
+        let given = eventsIn trace in
+        let found = answersOf trace in
+        parts-size (headLine (length (historyOf trace)) (linesIn trace)) (findingLines 1 given found) (footLine (reported found))
+        (head-size (length (historyOf trace)) (linesIn trace))
+        (omega (arith, lines-size 1 given found, events-few trace area e))
+        (foot-size (reported found))
+    go (Refused x n) e = omega (arith, refusal-size (numberOf x) n)

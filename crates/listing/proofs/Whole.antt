@@ -1,0 +1,62 @@
+-- The report of a trace, from what the judge answers and what it leaves in the area.
+use mathlib.Core.Path.{_≡_, refl, sym, ap, _∙_}
+use mathlib.Core.List.{List, _++_}
+use Prim.Native.Nat.{ℕ}
+use native.Mathlib.Omega.{arith}
+use lib.ListN.{length}
+use Rattle.event.specs.declared.Refusal.{Refusal}
+use Rattle.event.specs.Numbers.{numberOf}
+use Rattle.history.specs.Given.{reported}
+use Rattle.trace.specs.declared.TraceCheck.{TraceCheck}
+use Rattle.trace.specs.declared.TraceCheck.the-variants.{Passed, Refused as RefusedAt}
+use Rattle.trace.specs.Records.{linesIn, eventsIn}
+use Rattle.judge.specs.declared.Verdict.the-variants.{Refused, Accepted}
+use Rattle.judge.specs.Verdict.{traceCheck, historyOf, answersOf, verdictFor, verdictOf, areaAfter}
+use Rattle.listing.specs.Text.{Out, put}
+use Rattle.listing.specs.Lines.{headLine, footLine, refusalLine}
+use Rattle.listing.specs.Area.{linesFrom}
+use Rattle.listing.specs.Report.{findingLines, reportFor, reportOf}
+use Rattle.listing.proofs.Put.{three}
+use Rattle.listing.proofs.Area.{area-lines}
+
+-- what the judge's totals are
+record Totals (trace area : List ℕ) (events findings : ℕ) : Type 0 where
+  passes : traceCheck trace area ≡ Passed
+  counted : events ≡ length (historyOf trace)
+  found : findings ≡ reported (answersOf trace)
+
+module _ (trace area : List ℕ) where
+  -- of a refused trace only the refusal
+  refused-report : {x : Refusal} {n : ℕ} → verdictOf trace area ≡ Refused x n → reportOf trace area ≡ refusalLine (numberOf x) n
+  unfolding verdictOf reportOf
+  refused-report {x} {n} e = go (traceCheck trace area) e
+    where
+      go : (c : TraceCheck) → verdictFor c (historyOf trace) (answersOf trace) ≡ Refused x n → reportFor c trace ≡ refusalLine (numberOf x) n
+      go (RefusedAt y m) k = cc
+      go Passed k = let z : _≡_ {A = ℕ} 0 1 = cc in absurd (omega arith)
+
+  totals : {events fences findings : ℕ} → verdictOf trace area ≡ Accepted events fences findings → Totals trace area events findings
+  unfolding verdictOf
+  totals {events} {fences} {findings} e = go (traceCheck trace area) refl e
+    where
+      go : (c : TraceCheck) → traceCheck trace area ≡ c → verdictFor c (historyOf trace) (answersOf trace) ≡ Accepted events fences findings →
+          Totals trace area events findings
+      go (RefusedAt y m) p k = let z : _≡_ {A = ℕ} 0 1 = cc in absurd (omega arith)
+      go Passed p k = record { passes = p; counted = cc; found = cc }
+
+  -- the refusal is put
+  pub refusal-put : {x : Refusal} {n number : ℕ} (o : Out) {p : Out} → verdictOf trace area ≡ Refused x n → number ≡ numberOf x →
+      p ≡ put (refusalLine number n) o → p ≡ put (reportOf trace area) o
+  refusal-put o e k q = rw (refused-report e, ← k) q
+
+  -- head, finding lines and foot are put
+  pub listing-put : {events fences findings lines : ℕ} {next : List ℕ} (o : Out) {p q r : Out} →
+      verdictOf trace area ≡ Accepted events fences findings → lines ≡ linesIn trace → next ≡ areaAfter trace area →
+      p ≡ put (headLine events lines) o → q ≡ put (linesFrom 0 events next) p → r ≡ put (footLine findings) q → r ≡ put (reportOf trace area) o
+  unfolding reportOf
+  listing-put {events} {findings = findings} {lines} {next} o e k a head found foot =
+      let t = totals e in
+      let same : linesFrom 0 events next ≡ findingLines 1 (eventsIn trace) (answersOf trace) =
+      rw (t .counted, a) (area-lines trace area (t .passes)) in
+      three (headLine events lines) (linesFrom 0 events next) (footLine findings) o head found foot ∙
+      (rw (t .passes, same, t .counted, k, t .found))

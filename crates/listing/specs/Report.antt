@@ -1,0 +1,38 @@
+-- All that is printed for a trace: the listing of its events, or the refusal only.
+use mathlib.Core.List.{List, [], _∷_, _++_}
+use Prim.Native.Nat.{ℕ, suc}
+use lib.ListN.{length}
+use Rattle.event.specs.declared.Record.{Record}
+use Rattle.event.specs.declared.Answer.{Answer}
+use Rattle.event.specs.declared.Answer.the-variants.{Refused as NoFinding, Found}
+use Rattle.event.specs.Numbers.{fieldsOf, numberOf}
+use Rattle.history.specs.Given.{reported}
+use Rattle.trace.specs.declared.TraceCheck.{TraceCheck}
+use Rattle.trace.specs.declared.TraceCheck.the-variants.{Passed, Refused}
+use Rattle.trace.specs.Records.{linesIn, eventsIn}
+use Rattle.judge.specs.Verdict.{traceCheck, historyOf, answersOf}
+use Rattle.listing.specs.Lines.{headLine, findingLine, footLine, refusalLine}
+
+-- the line of an event's finding
+abbrev pub lineFor : ℕ → Record → Answer → List ℕ
+lineFor event r (Found f) = findingLine event (r .site) (fieldsOf f)
+lineFor event r (NoFinding x) = []
+
+-- the lines of events, the first of which has this number
+unfoldable pub findingLines : ℕ → List Record → List Answer → List ℕ
+findingLines event [] found = []
+findingLines event (r ∷ rest) [] = []
+findingLines event (r ∷ rest) (a ∷ found) = lineFor event r a ++ findingLines (suc event) rest found
+
+-- the listing of an accepted trace
+abbrev pub listingOf : List ℕ → List ℕ
+listingOf trace =
+    headLine (length (historyOf trace)) (linesIn trace) ++ findingLines 1 (eventsIn trace) (answersOf trace) ++ footLine (reported (answersOf trace))
+
+abbrev pub reportFor : TraceCheck → List ℕ → List ℕ
+reportFor Passed trace = listingOf trace
+reportFor (Refused x n) trace = refusalLine (numberOf x) n
+
+-- what is printed for a trace that is judged into an area
+unfoldable pub reportOf : (trace area : List ℕ) → List ℕ
+reportOf trace area = reportFor (traceCheck trace area) trace
