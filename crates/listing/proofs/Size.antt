@@ -1,10 +1,10 @@
--- No report is longer than 436,856 bytes, whatever the trace and the area.
-use mathlib.Core.Path.{_≡_, refl}
+-- No report is longer than 436,856 bytes, whatever the trace and the area, so in that much room it is whole.
+use mathlib.Core.Path.{_≡_, refl, sym, ap, _∙_}
 use mathlib.Core.Bool.{Bool, true, false, cond}
 use mathlib.Core.List.{List, [], _∷_, _++_}
 use Prim.Native.Nat.{ℕ, zero, suc, _*_, _≤_, max}
 use native.Mathlib.Omega.{arith}
-use lib.ListN.{length, getD, length-append}
+use lib.ListN.{length, take, getD, length-append, length-take}
 use Rattle.event.specs.declared.Record.{Record}
 use Rattle.event.specs.declared.Fields.{Fields}
 use Rattle.event.specs.declared.Answer.{Answer}
@@ -15,9 +15,11 @@ use Rattle.trace.specs.declared.TraceCheck.{TraceCheck}
 use Rattle.trace.specs.declared.TraceCheck.the-variants.{Passed, Refused}
 use Rattle.trace.specs.Records.{linesIn, eventsIn}
 use Rattle.judge.specs.Verdict.{traceCheck, historyOf, answersOf}
+use Rattle.listing.specs.Text.{Out, out, put}
 use Rattle.listing.specs.Lines.{headLine, names, nameOf, isPrinted, field, values, columns, findingLine, footLine, refusalLine}
 use Rattle.listing.specs.Report.{lineFor, findingLines, reportFor, reportOf}
 use Rattle.listing.proofs.Decimal.{decimal-length}
+use Rattle.listing.proofs.Filled.{whole}
 use Rattle.listing.proofs.Area.{events-few}
 
 -- the size of the longest of some texts
@@ -97,3 +99,15 @@ report-size trace area = go (traceCheck trace area) refl
         (omega (arith, lines-size 1 given found, events-few trace area e))
         (foot-size (reported found))
     go (Refused x n) e = omega (arith, refusal-size (numberOf x) n)
+
+-- so where there is room for so many bytes, the whole report is put
+pub report-whole : (trace area d : List ℕ) {text : List ℕ} {n : ℕ} → 436856 ≤ length d →
+    out text n ≡ put (reportOf trace area) (out d 0) → (n ≤ length text) × (n ≡ length (take n text)) × (take n text ≡ reportOf trace area)
+report-whole trace area d {text} {n} room e =
+    let s = reportOf trace area in
+    let w = whole s d (omega (arith, report-size trace area)) in
+    let bytes : text ≡ put s (out d 0) .bytes = ap (λ (o : Out). o .bytes) e in
+    let size : n ≡ length s = ap (λ (o : Out). o .next) e ∙ w .1 in
+    let all : take n text ≡ s = rw (size, bytes) (w .0) in
+    let counted : n ≡ length (take n text) = size ∙ sym (ap length all) in
+    (omega (arith, counted, length-take n text), counted, all)
