@@ -38,7 +38,7 @@ use Rattle.judge.specs.Pass.{placed, Stage, stage, recordsGiven}
 use Rattle.judge.specs.Verdict.{findingSize, findingsBytes}
 use Rattle.judge.proofs.Placed.{placed-length, both-placed}
 
--- where the check of an event passes, it is the rest that passes
+-- where a check and the rest after it pass, both do
 pub unless-passed : (c : Check) (n : ℕ) (rest : TraceCheck) → unlessBroken c n rest ≡ Passed → (c ≡ Fits) × (rest ≡ Passed)
 unless-passed Fits n rest e = (refl, e)
 unless-passed (Breaks x) n rest e = let z : _≡_ {A = ℕ} 0 1 = cc in absurd (omega arith)

@@ -3,19 +3,17 @@ use mathlib.Core.Path.{_≡_, refl, sym, ap, ap₂, _∙_}
 use mathlib.Core.List.{List, [], _∷_, _++_, append-assoc}
 use Prim.Native.Nat.{ℕ, suc, _+_, _*_, _≤_}
 use native.Mathlib.Omega.{arith}
+use lib.Dec.{eqb}
 use lib.ListN.{length, drop, getD, length-append}
 use lib.Seq.{getD-append-add}
 use borrow.Author.Tests.{not-false, eqb-true, ltb-false}
-use lib.Dec.{eqb}
 use Rattle.event.specs.declared.Record.{Record as Event}
 use Rattle.event.specs.declared.Finding.{Finding}
-use Rattle.event.specs.declared.Fields.{Fields}
-use Rattle.event.specs.declared.Refusal.{Refusal}
 use Rattle.event.specs.declared.Check.the-variants.{Passed as Fits}
 use Rattle.event.specs.declared.Answer.the-variants.{Found}
 use Rattle.event.specs.declared.Parsed.{Parsed}
 use Rattle.event.specs.declared.Parsed.the-variants.{Record, Refused as Unread}
-use Rattle.event.specs.Numbers.{fieldsWith, fieldsOf}
+use Rattle.event.specs.Numbers.{fieldsOf}
 use Rattle.codec.specs.Codec.{u16At, findingBytes, fieldsAt}
 use Rattle.codec.proofs.Meaning.{u16-round-trip}
 use Rattle.history.specs.History.{History}
@@ -24,8 +22,9 @@ use Rattle.history.specs.Refused.{firstBroken, NoneBroken, refusalBy}
 use Rattle.history.specs.Found.{findingBy}
 use Rattle.history.specs.Given.{answerOf, accepted, answers}
 use Rattle.limits.proofs.Passed.{none-broken}
+use Rattle.trace.specs.declared.Trailer.{Trailer}
 use Rattle.trace.specs.declared.TraceCheck.the-variants.{Passed}
-use Rattle.trace.specs.Trailer.{trailerOf, endOf}
+use Rattle.trace.specs.Trailer.{mostBytes, trailerOf, endOf}
 use Rattle.trace.specs.Records.{recordPart, eventsOf, linesIn, recordsIn, eventsIn}
 use Rattle.trace.specs.Checked.{checkFrom, checkAll}
 use Rattle.trace.proofs.RecordsNext.{records-counted}
@@ -62,53 +61,46 @@ line-read before bytes f site rest e =
     (u16-after bytes (findingBytes f site ++ rest) (findingSize * before) e 10 ∙ u16-round-trip site)
     (fields-after bytes (findingBytes f site ++ rest) (findingSize * before) e ∙ fields-read f site rest)
 
--- where the check of the records passes, the first of them has a finding, and the check of the others passes
-module _ (lines n : ℕ) (h : History) (r : Event) (rest : List Parsed) (passes : checkFrom lines n h (Record r ∷ rest) ≡ Passed) where
-  abbrev finding : Finding
-  finding = findingBy (ofHistory lines h) (r .event)
+-- records that are events, each with a finding after the history and those before it
+data AllFound (lines : ℕ) : History → List Parsed → Type 0 where
+  done : {h : History} → AllFound lines h []
+  found : {h : History} {r : Event} {f : Finding} {rest : List Parsed} →
+      answerOf lines h r ≡ Found f → AllFound lines (r ∷ h) rest → AllFound lines h (Record r ∷ rest)
 
-  first-passes : (refusalBy (ofHistory lines h) (r .event) ≡ Fits) × (checkFrom lines (suc n) (r ∷ h) rest ≡ Passed)
-  unfolding checkFrom
-  first-passes = unless-passed (refusalBy (ofHistory lines h) (r .event)) n (checkFrom lines (suc n) (r ∷ h) rest) passes
+-- those that are not refused are
+all-found : (lines n : ℕ) (h : History) (records : List Parsed) → checkFrom lines n h records ≡ Passed → AllFound lines h records
+unfolding checkFrom answerOf
+all-found lines n h [] e = AllFound.done
+all-found lines n h (Unread x ∷ rest) e = let z : _≡_ {A = ℕ} 0 1 = cc in absurd (omega arith)
+all-found lines n h (Record r ∷ rest) e =
+    let passes = unless-passed (refusalBy (ofHistory lines h) (r .event)) n (checkFrom lines (suc n) (r ∷ h) rest) e in
+    let answer : answerOf lines h r ≡ Found (findingBy (ofHistory lines h) (r .event)) = rw (passes .0) in
+    AllFound.found answer (all-found lines (suc n) (r ∷ h) rest (passes .1))
 
-  first-found : answerOf lines h r ≡ Found finding
-  unfolding answerOf
-  first-found = rw (first-passes .0)
-
--- a record that is not read is refused
-unread : (lines n : ℕ) (h : History) (x : Refusal) (rest : List Parsed) → checkFrom lines n h (Unread x ∷ rest) ≡ Passed → ⊥
-unfolding checkFrom
-unread lines n h x rest e = let z : _≡_ {A = ℕ} 0 1 = cc in omega arith
-
--- so all events are accepted
-all-accepted : (lines n : ℕ) (h : History) (records : List Parsed) → checkFrom lines n h records ≡ Passed →
+-- so all their events are accepted
+all-accepted : {lines : ℕ} {h : History} {records : List Parsed} → AllFound lines h records →
     length (accepted lines h (eventsOf records)) ≡ length h + length (eventsOf records)
 unfolding eventsOf accepted
-all-accepted lines n h [] e = omega arith
-all-accepted lines n h (Unread x ∷ rest) e = absurd (unread lines n h x rest e)
-all-accepted lines n h (Record r ∷ rest) e =
-    rw (first-found lines n h r rest e, accepted) (omega (arith, all-accepted lines (suc n) (r ∷ h) rest (first-passes lines n h r rest e .1)))
+all-accepted AllFound.done = omega arith
+all-accepted (AllFound.found e rest) = rw (e, accepted) (omega (arith, all-accepted rest))
 
--- and where their findings stand after others, their lines are read
-lines-read : (lines before : ℕ) (h : History) (records : List Parsed) → checkFrom lines (suc before) h records ≡ Passed →
-    (bytes after : List ℕ) → length bytes ≡ findingSize * before →
+-- and where their findings stand after those of as many events as there are before, their lines are read
+lines-read : {lines : ℕ} {h : History} {records : List Parsed} → AllFound lines h records →
+    (before : ℕ) (bytes after : List ℕ) → length bytes ≡ findingSize * before →
     let given = eventsOf records in
     linesFrom before (length given) (bytes ++ (findingsBytes given (answers lines h given) ++ after)) ≡
     findingLines (suc before) given (answers lines h given)
 unfolding eventsOf answers findingsBytes linesFrom findingLines
-lines-read lines before h [] e bytes after k = refl
-lines-read lines before h (Unread x ∷ rest) e bytes after k = absurd (unread lines (suc before) h x rest e)
-lines-read lines before h (Record r ∷ rest) e bytes after k =
-    let f = findingBy (ofHistory lines h) (r .event) in
-    let given = eventsOf rest in
-    let more = findingsBytes given (answers lines (r ∷ h) given) in
-    let front = bytes ++ findingBytes f (r .site) in
-    let size : length front ≡ findingSize * suc before = omega (arith, length-append bytes (findingBytes f (r .site))) in
-    rw (first-found lines (suc before) h r rest e, answers)
-    (ap₂ (λ (line others : List ℕ). line ++ others)
-    (line-read before bytes f (r .site) (more ++ after) k)
-    (ap (linesFrom (suc before) (length given)) (sym (append-assoc bytes (findingBytes f (r .site)) (more ++ after))) ∙
-    lines-read lines (suc before) (r ∷ h) rest (first-passes lines (suc before) h r rest e .1) front after size))
+lines-read AllFound.done before bytes after k = refl
+lines-read {lines} {h} (AllFound.found {r = r} {f = f} {rest = others} e rest) before bytes after k =
+    let given = eventsOf others in
+    let more = findingsBytes given (answers lines (r ∷ h) given) ++ after in
+    let one = findingBytes f (r .site) in
+    let size : length (bytes ++ one) ≡ findingSize * suc before = omega (arith, length-append bytes one) in
+    rw (e, answers)
+    (ap₂ (λ (line others : List ℕ). line ++ others) (line-read before bytes f (r .site) more k)
+    (ap (linesFrom (suc before) (length given)) (sym (append-assoc bytes one more)) ∙
+    lines-read rest (suc before) (bytes ++ one) after size))
 
 -- there are at most as many events as records
 few-events : (records : List Parsed) → length (eventsOf records) ≤ length records
@@ -118,24 +110,26 @@ few-events (Record r ∷ rest) = omega (arith, few-events rest)
 few-events (Unread x ∷ rest) = omega (arith, few-events rest)
 
 module _ (trace area : List ℕ) (accepts : traceCheck trace area ≡ Passed) where
-  -- an accepted trace breaks no limit, and the check of its records passes
+  -- no limit is broken, and no record is refused
   both-pass : (firstBroken (traceLimits trace area) ≡ Fits) × (checkAll (linesIn trace) (recordsIn trace) ≡ Passed)
   both-pass = unless-passed (firstBroken (traceLimits trace area)) 0 (checkAll (linesIn trace) (recordsIn trace)) accepts
 
-  -- the lines of its area are those of its events
+  -- the lines that the code reads off the area are those of the events
   pub area-lines : linesFrom 0 (length (historyOf trace)) (areaAfter trace area) ≡ findingLines 1 (eventsIn trace) (answersOf trace)
   area-lines =
-      let all : length (historyOf trace) ≡ length (eventsIn trace) = omega (arith, all-accepted (linesIn trace) 1 [] (recordsIn trace) (both-pass .1)) in
-      rw (area-holds trace area accepts, all)
-      (lines-read (linesIn trace) 0 [] (recordsIn trace) (both-pass .1) [] (drop (areaSize trace) area) refl)
+      let found = all-found (linesIn trace) 1 [] (recordsIn trace) (both-pass .1) in
+      let all : length (historyOf trace) ≡ length (eventsIn trace) = omega (arith, all-accepted found) in
+      rw (area-holds trace area accepts, all) (lines-read found 0 [] (drop (areaSize trace) area) refl)
 
-  -- it has at most 5,460 events
+  -- there are at most 5,460 of them: 12 bytes each, and 16 for the trailer, in 65,536
   pub events-few : length (eventsIn trace) ≤ 5460
   events-few = go (none-broken (traceLimits trace area) (both-pass .0))
     where
+      t : Trailer
+      t = trailerOf trace
+
       go : NoneBroken (traceLimits trace area) → length (eventsIn trace) ≤ 5460
       go (NoneBroken.cons a (NoneBroken.cons b (NoneBroken.cons c (NoneBroken.cons d (NoneBroken.cons e f))))) =
-          let short : length trace ≤ 65536 = ltb-false 65536 (length trace) b in
-          let ends : endOf (trailerOf trace) ≡ length trace =
-          eqb-true (endOf (trailerOf trace)) (length trace) (not-false (eqb (endOf (trailerOf trace)) (length trace)) e) in
-          omega (arith, few-events (recordsIn trace), records-counted (trailerOf trace .count) (recordPart (trailerOf trace .offset) trace))
+          let short : length trace ≤ mostBytes = ltb-false mostBytes (length trace) b in
+          let ends : endOf t ≡ length trace = eqb-true (endOf t) (length trace) (not-false (eqb (endOf t) (length trace)) e) in
+          omega (arith, few-events (recordsIn trace), records-counted (t .count) (recordPart (t .offset) trace))

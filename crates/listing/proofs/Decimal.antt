@@ -78,7 +78,7 @@ decimal-front n h =
     by-tenths (λ n s. (0 < length s) × (getD s 0 0 ≡ digit 0 → n ≡ 0)) (λ n k. omega arith)
     (λ n front k e. (
       omega (arith, length-append front (digit (n % 10) ∷ [])),
-      λ z. let zero : n / 10 ≡ 0 = e .1 (sym (List·getD-append front (digit (n % 10) ∷ []) 0 0 (e .0)) ∙ z) in absurd (omega arith),
+      λ z. let tenth : n / 10 ≡ 0 = e .1 (sym (List·getD-append front (digit (n % 10) ∷ []) 0 0 (e .0)) ∙ z) in absurd (omega arith),
     )) 9 n h
 
 -- at most ten bytes, whatever the number
@@ -87,7 +87,8 @@ unfolding decimalIn
 few-digits zero n = omega arith
 few-digits (suc k) n = go (ltb n 10) (few-digits k (n / 10))
   where
-    go : (b : Bool) → length (decimalIn k (n / 10)) ≤ k → length (cond b (digit n ∷ []) (decimalIn k (n / 10) ++ digit (n % 10) ∷ [])) ≤ suc k
+    go : (b : Bool) → length (decimalIn k (n / 10)) ≤ k →
+        length (cond b (digit n ∷ []) (decimalIn k (n / 10) ++ digit (n % 10) ∷ [])) ≤ suc k
     go true front = omega arith
     go false front = omega (arith, length-append (decimalIn k (n / 10)) (digit (n % 10) ∷ []))
 

@@ -4,7 +4,7 @@ use mathlib.Core.List.{List, [], _∷_, _++_}
 use Prim.Native.Nat.{ℕ, _+_, _≤_, _<_, min}
 use native.Mathlib.Omega.{arith}
 use lib.ListN.{length, take, drop, length-append}
-use lib.Seq.{take-all, take-append-seam, set-append-seam, append-snoc, drop-nil}
+use lib.Seq.{take-all, take-append-seam, drop-append-seam, set-append-seam, append-snoc, drop-nil}
 use borrow.Author.Tests.{lt-ltb, le-ltb}
 use Rattle.listing.specs.Text.{Out, out, putByte, put}
 
@@ -30,11 +30,22 @@ put-after (b ∷ s) a (x ∷ d) =
     rw (room b a x d, put-after s (a ++ b ∷ []) d)
     (ap₂ out (append-snoc a b (take (length d) s ++ drop (length s) d)) (omega (arith, length-append a (b ∷ []))))
 
+-- a text that fits is all there, and the bytes beyond do not change
+pub record Fits (s d : List ℕ) : Type 0 where
+  pub text : take (length s) (put s (out d 0) .bytes) ≡ s
+  pub next : put s (out d 0) .next ≡ length s
+  pub beyond : drop (length s) (put s (out d 0) .bytes) ≡ drop (length s) d
+
 module _ (s d : List ℕ) where
   -- the first of its bytes, and the rest of the slice
   pub filled : put s (out d 0) ≡ out (take (length d) s ++ drop (length s) d) (min (length s) (length d))
   filled = put-after s [] d ∙ ap (out (take (length d) s ++ drop (length s) d)) (omega arith)
 
-  -- a text that fits is all there
-  pub whole : length s ≤ length d → (take (length s) (put s (out d 0) .bytes) ≡ s) × (put s (out d 0) .next ≡ length s)
-  whole k = rw (filled, take-all (length d) s k) (take-append-seam s (drop (length s) d), omega arith)
+  pub whole : length s ≤ length d → Fits s d
+  whole k =
+      let rest = drop (length s) d in
+      record {
+        text = rw (filled, take-all (length d) s k) (take-append-seam s rest);
+        next = rw filled (omega arith);
+        beyond = rw (filled, take-all (length d) s k) (drop-append-seam s rest);
+      }

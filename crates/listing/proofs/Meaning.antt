@@ -1,47 +1,121 @@
--- The whole run of document 01 and a refusal, as text.
+-- What is printed, in plain words: for the whole run of document 01, for a trace that is refused, and as the number in the foot.
 use mathlib.Core.Path.{_≡_, refl}
+use mathlib.Core.Bool.{Bool, true, false, cond}
 use mathlib.Core.List.{List, [], _∷_, _++_}
-use Prim.Native.Nat.{ℕ}
+use Prim.Native.Nat.{ℕ, zero, suc, _+_, _/_, _%_, _≤_}
+use native.Mathlib.Omega.{arith}
+use lib.Dec.{ltb, eqb}
+use lib.ListN.{length}
+use borrow.Author.Tests.{le-ltb, ne-eqb}
 use Rattle.event.specs.declared.Range.{Range}
 use Rattle.event.specs.declared.Event.{Event}
 use Rattle.event.specs.declared.Event.the-variants.{Store, WriteBack, Fence, Persisted, Ordered}
 use Rattle.event.specs.declared.Record.{Record}
+use Rattle.event.specs.declared.Finding.the-variants.{None, Holds, Lost, OutOfOrder, Unlogged, Clean, WrittenTwice, LoggedTwice, Empty}
+use Rattle.event.specs.declared.Fields.{Fields}
 use Rattle.event.specs.declared.Answer.{Answer}
+use Rattle.event.specs.declared.Answer.the-variants.{Refused as NoFinding, Found}
+use Rattle.event.specs.Numbers.{fieldsOf}
 use Rattle.history.specs.Count.{count, last, first}
-use Rattle.history.specs.History.{is}
+use Rattle.history.specs.History.{History, is}
 use Rattle.history.specs.Interval.{epochAt, lastStore, backAfter, fenceAfter, intervalOf}
-use Rattle.history.specs.Transaction.{depth, outermost}
+use Rattle.history.specs.Transaction.{depth}
 use Rattle.history.specs.Found.{lowest, lowestPair, findingBy}
 use Rattle.history.specs.Refused.{refusalBy}
-use Rattle.history.specs.Given.{answerOf, answers, reported}
-use Rattle.listing.specs.Text.{ascii, decimalIn}
-use Rattle.listing.specs.Lines.{headLine, field, values, columns, findingLine, footLine, refusalLine}
-use Rattle.listing.specs.Report.{findingLines}
+use Rattle.history.specs.Given.{answerOf, after, accepted, answers, counts, reported}
+use Rattle.trace.specs.Trailer.{sameBytes, trailerOf}
+use Rattle.trace.specs.Records.{recordsOf, eventsOf}
+use Rattle.trace.specs.Checked.{checkFrom}
+use Rattle.trace.specs.Layout.{recordsBytes, traceBytes}
+use Rattle.listing.specs.Text.{ascii, digit, decimalIn}
+use Rattle.listing.specs.Lines.{headLine, nameOf, field, values, columns, findingLine, footLine, refusalLine}
+use Rattle.listing.specs.Report.{lineFor, findingLines, reportOf}
 
 -- address/length
 infix 50 _/·_
 abbrev _/·_ : ℕ → ℕ → Range
 address /· length = record { address = address; length = length }
 
-abbrev at : ℕ → Event → Record
-at site event = record { event = event; site = site }
+-- an event and its site
+infix 70 _at_
+abbrev _at_ : Event → ℕ → Record
+event at site = record { event = event; site = site }
 
--- the nine events of the run, in two lines
-abbrev given : List Record
-given =
-    at 10 (Store (0 /· 8)) ∷ at 11 (Store (64 /· 8)) ∷ at 12 (WriteBack (0 /· 8)) ∷ at 13 Fence ∷
-    at 14 (Ordered (0 /· 8) (64 /· 8)) ∷ at 15 (Persisted (64 /· 8)) ∷ at 16 (WriteBack (0 /· 128)) ∷ at 17 Fence ∷
-    at 18 (Persisted (0 /· 128)) ∷ []
+-- the events of the whole run
+abbrev pub wholeRun : List Record
+wholeRun =
+    Store (0 /· 8) at 10 ∷ Store (64 /· 8) at 11 ∷ WriteBack (0 /· 8) at 12 ∷ Fence at 13 ∷ Ordered (0 /· 8) (64 /· 8) at 14 ∷
+    Persisted (64 /· 8) at 15 ∷ WriteBack (0 /· 128) at 16 ∷ Fence at 17 ∷ Persisted (0 /· 128) at 18 ∷ []
 
-abbrev found : List Answer
-found = answers 2 [] given
+-- in two lines, judged into any area that has room
+pub whole-run : (area : List ℕ) → 108 ≤ length area → reportOf (traceBytes [] wholeRun 2) area ≡
+    ascii "trace 9 events 2 lines\n" ++
+    ascii "5 14 out-of-order 0 64 2 1\n" ++
+    ascii "6 15 lost 64 0 6 2\n" ++
+    ascii "7 16 written-twice 0 0 0 0\n" ++
+    ascii "9 18 holds 0 0 0 0\n" ++
+    ascii "end 4\n"
+unfolding count last first is epochAt lastStore backAfter fenceAfter intervalOf depth lowest lowestPair findingBy refusalBy
+    answerOf accepted answers reported sameBytes trailerOf recordsOf eventsOf checkFrom recordsBytes decimalIn
+    headLine field values columns findingLine footLine findingLines reportOf
+whole-run area k = rw (le-ltb (length area) 108 k)
 
-pub whole-run : headLine 9 2 ++ findingLines 1 given found ++ footLine (reported found) ≡
-    ascii "trace 9 events 2 lines\n5 14 out-of-order 0 64 2 1\n6 15 lost 64 0 6 2\n7 16 written-twice 0 0 0 0\n9 18 holds 0 0 0 0\nend 4\n"
-unfolding count last first is epochAt lastStore backAfter fenceAfter intervalOf depth outermost lowest lowestPair findingBy refusalBy
-    answerOf answers reported decimalIn headLine field values columns findingLine footLine findingLines
-whole-run = refl
+-- range 121/8 runs past two lines
+pub refused-run : (area : List ℕ) → 36 ≤ length area →
+    reportOf (traceBytes [] (Store (0 /· 8) at 10 ∷ Store (120 /· 8) at 11 ∷ Store (121 /· 8) at 12 ∷ []) 2) area ≡ ascii "refused 9 at 3\n"
+unfolding refusalBy sameBytes trailerOf recordsOf checkFrom recordsBytes decimalIn refusalLine reportOf
+refused-run area k = rw (le-ltb (length area) 36 k)
 
-pub refusal : refusalLine 9 3 ≡ ascii "refused 9 at 3\n"
-unfolding decimalIn refusalLine
-refusal = refl
+-- the line feeds of a text
+abbrev pub feeds : List ℕ → ℕ
+feeds [] = 0
+feeds (b ∷ rest) = cond (eqb b 10) 1 0 + feeds rest
+
+feeds-append : (s t : List ℕ) → feeds (s ++ t) ≡ feeds s + feeds t
+feeds-append [] t = omega arith
+feeds-append (b ∷ s) t = omega (arith, feeds-append s t)
+
+digit-feeds : (d : ℕ) → feeds (digit d ∷ []) ≡ 0
+digit-feeds d = rw (ne-eqb (digit d) 10 (λ e. omega arith))
+
+decimal-feeds : (k n : ℕ) → feeds (decimalIn k n) ≡ 0
+unfolding decimalIn
+decimal-feeds zero n = refl
+decimal-feeds (suc k) n = go (ltb n 10) (decimal-feeds k (n / 10))
+  where
+    go : (b : Bool) → feeds (decimalIn k (n / 10)) ≡ 0 → feeds (cond b (digit n ∷ []) (decimalIn k (n / 10) ++ digit (n % 10) ∷ [])) ≡ 0
+    go true e = digit-feeds n
+    go false e = omega (arith, feeds-append (decimalIn k (n / 10)) (digit (n % 10) ∷ []), digit-feeds (n % 10))
+
+-- a finding line has one, and a finding that is none has no line
+columns-feeds : (event site : ℕ) (f : Fields) → feeds (nameOf (f .kind)) ≡ 0 → feeds (columns event site f) ≡ 1
+unfolding field values columns
+columns-feeds event site f name = simp (feeds-append, decimal-feeds, name)
+
+line-feeds : (event : ℕ) (r : Record) (a : Answer) → feeds (lineFor event r a) ≡ counts a
+unfolding findingLine
+line-feeds event r (NoFinding x) = refl
+line-feeds event r (Found None) = refl
+line-feeds event r (Found Holds) = columns-feeds event (r .site) (fieldsOf Holds) refl
+line-feeds event r (Found (Lost a b c)) = columns-feeds event (r .site) (fieldsOf (Lost a b c)) refl
+line-feeds event r (Found (OutOfOrder a b c d)) = columns-feeds event (r .site) (fieldsOf (OutOfOrder a b c d)) refl
+line-feeds event r (Found (Unlogged a)) = columns-feeds event (r .site) (fieldsOf (Unlogged a)) refl
+line-feeds event r (Found (Clean a)) = columns-feeds event (r .site) (fieldsOf (Clean a)) refl
+line-feeds event r (Found (WrittenTwice a)) = columns-feeds event (r .site) (fieldsOf (WrittenTwice a)) refl
+line-feeds event r (Found (LoggedTwice a)) = columns-feeds event (r .site) (fieldsOf (LoggedTwice a)) refl
+line-feeds event r (Found Empty) = columns-feeds event (r .site) (fieldsOf Empty) refl
+
+-- so the number in the foot is that of the finding lines
+pub foot-counts : (event lines : ℕ) (h : History) (given : List Record) →
+    feeds (findingLines event given (answers lines h given)) ≡ reported (answers lines h given)
+unfolding findingLines reported answers
+foot-counts event lines h [] = refl
+foot-counts event lines h (r ∷ given) =
+    let a = answerOf lines h r in
+    let later = after a r h in
+    omega (
+      arith,
+      feeds-append (lineFor event r a) (findingLines (suc event) given (answers lines later given)),
+      line-feeds event r a,
+      foot-counts (suc event) lines later given,
+    )

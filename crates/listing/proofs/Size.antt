@@ -4,7 +4,7 @@ use mathlib.Core.Bool.{Bool, true, false, cond}
 use mathlib.Core.List.{List, [], _∷_, _++_}
 use Prim.Native.Nat.{ℕ, zero, suc, _*_, _≤_, max}
 use native.Mathlib.Omega.{arith}
-use lib.ListN.{length, take, getD, length-append, length-take}
+use lib.ListN.{length, take, drop, getD, length-append, length-take}
 use Rattle.event.specs.declared.Record.{Record}
 use Rattle.event.specs.declared.Fields.{Fields}
 use Rattle.event.specs.declared.Answer.{Answer}
@@ -100,14 +100,25 @@ report-size trace area = go (traceCheck trace area) refl
         (foot-size (reported found))
     go (Refused x n) e = omega (arith, refusal-size (numberOf x) n)
 
--- so where there is room for so many bytes, the whole report is put
-pub report-whole : (trace area d : List ℕ) {text : List ℕ} {n : ℕ} → 436856 ≤ length d →
-    out text n ≡ put (reportOf trace area) (out d 0) → (n ≤ length text) × (n ≡ length (take n text)) × (take n text ≡ reportOf trace area)
+-- so where there is room for so many bytes, the whole report is put, and the bytes beyond do not change
+pub record Whole (trace area d text : List ℕ) (n : ℕ) : Type 0 where
+  pub within : n ≤ length text
+  pub counted : n ≡ length (take n text)
+  pub report : take n text ≡ reportOf trace area
+  pub beyond : drop n text ≡ drop n d
+
+pub report-whole : (trace area d : List ℕ) {text : List ℕ} {n : ℕ} → 436856 ≤ length d → out text n ≡ put (reportOf trace area) (out d 0) →
+    Whole trace area d text n
 report-whole trace area d {text} {n} room e =
     let s = reportOf trace area in
     let w = whole s d (omega (arith, report-size trace area)) in
     let bytes : text ≡ put s (out d 0) .bytes = ap (λ (o : Out). o .bytes) e in
-    let size : n ≡ length s = ap (λ (o : Out). o .next) e ∙ w .1 in
-    let all : take n text ≡ s = rw (size, bytes) (w .0) in
+    let size : n ≡ length s = ap (λ (o : Out). o .next) e ∙ w .next in
+    let all : take n text ≡ s = rw (size, bytes) (w .text) in
     let counted : n ≡ length (take n text) = size ∙ sym (ap length all) in
-    (omega (arith, counted, length-take n text), counted, all)
+    record {
+      within = omega (arith, counted, length-take n text);
+      counted = counted;
+      report = all;
+      beyond = rw (size, bytes) (w .beyond);
+    }

@@ -3,6 +3,8 @@ use event::numbers;
 use judge::Verdict;
 use trace::opening;
 ghost use mathlib.Core.Path.{_≡_};
+ghost use Prim.Native.Nat.{_≤_};
+ghost use lib.ListN.{length, take, drop};
 ghost use Rattle.judge.specs.Verdict.{areaAfter};
 ghost use Rattle.listing.specs.Text.{out, put};
 ghost use Rattle.listing.specs.Report.{reportOf};
@@ -10,9 +12,8 @@ ghost use Rattle.listing.specs.Report.{reportOf};
 pub mod lines; // head, finding, foot and refusal, a line each
 pub mod text; // words and numbers, put into a slice
 
-// Judges a trace into an area and puts what is to be printed for it at the start of the text. Answers how many bytes were put: the
-// whole report, or as much of it as there is room for.
-pub fn report(trace: &[u8], area: &mut [u8], text: &mut [u8]) -> usize
+// Judges a trace into an area and puts what is to be printed for it at the start of the text, or as much as there is room for.
+fn put_report(trace: &[u8], area: &mut [u8], text: &mut [u8]) -> usize
     ensures { λ _. ⌜ now (area .exit) ≡ areaAfter (now (trace .entry)) (now (area .entry)) ⌝ }
     ensures { λ r. ⌜ out (now (text .exit)) r ≡ put (reportOf (now (trace .entry)) (now (area .entry))) (out (now (text .entry)) 0) ⌝ }
 {
@@ -34,4 +35,15 @@ pub fn report(trace: &[u8], area: &mut [u8], text: &mut [u8]) -> usize
             lines::foot(text, b, findings)
         }
     }
+}
+
+// Judges a trace into an area and puts what is to be printed for it at the start of the text, where there is room for every report.
+// Answers its length. The rest of the text does not change.
+pub fn report(trace: &[u8], area: &mut [u8], text: &mut [u8; 436856]) -> usize
+    ensures { λ _. ⌜ now (area .exit) ≡ areaAfter (now (trace .entry)) (now (area .entry)) ⌝ }
+    ensures { λ r. ⌜ (r ≤ length (now (text .exit))) × (r ≡ length (take r (now (text .exit)))) ⌝ }
+    ensures { λ r. ⌜ take r (now (text .exit)) ≡ reportOf (now (trace .entry)) (now (area .entry)) ⌝ }
+    ensures { λ r. ⌜ drop r (now (text .exit)) ≡ drop r (now (text .entry)) ⌝ }
+{
+    put_report(trace, area, text)
 }

@@ -35,8 +35,8 @@ fn has_mark(t: &[u8]) -> bool
     same_bytes(&t[..4], b"PTRA")
 }
 
-// The u32 at a place of the trailer.
-fn u32_at(t: &[u8], at: u8) -> u32
+// The u32 at a place; bytes past the end count as 0.
+pub fn u32_at(t: &[u8], at: u8) -> u32
     ensures { λ r. ⌜ r ≡ u32At (now (t .entry)) at ⌝ }
 {
     let i = at as usize;

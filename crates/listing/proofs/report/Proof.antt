@@ -1,93 +1,22 @@
--- `listing::report` meets its contract: what the judge answers decides between the refusal and the listing, whose finding lines are read
--- off the area. Assumes nothing.
-use Rattle.event.proofs.Laws.{equal-by}
-use mathlib.Core.Path.{ap}
-use Rattle.trace.specs.declared.Trailer.{Trailer}
-use Rattle.listing.specs.Text.{out}
-use Rattle.listing.proofs.Whole.{refusal-put, listing-put}
+-- `listing::report` meets its contract: the text has room for every report. Assumes nothing.
+use native.Mathlib.Omega.{arith}
+use Rattle.listing.proofs.Size.{report-whole}
 use borrow.Author.Needs.{needs}
 use Rattle.listing.proofs.report.Statement.{statement}
 use Rattle.listing.proofs.report.Tie as tie
 
-judge-requires : tie.Need-judge-requires
-judge-requires c κs = search needs
-
-enum-known-refusal : tie.Need-enum-known-refusal
-enum-known-refusal c = search needs
-
-number-requires : tie.Need-number-requires
-number-requires c κs = search needs
-
-refusal-requires : tie.Need-refusal-requires
-refusal-requires c κs = search needs
-
-enum-known-events : tie.Need-enum-known-events
-enum-known-events c = search needs
-
-trailer-requires : tie.Need-trailer-requires
-trailer-requires c κs = search needs
-
-head-requires : tie.Need-head-requires
-head-requires c κs = search needs
-
-findings-requires : tie.Need-findings-requires
-findings-requires c κs = search needs
-
-foot-requires : tie.Need-foot-requires
-foot-requires c κs = search needs
+put-report-requires : tie.Need-put-report-requires
+put-report-requires c κs = search needs
 
 same-length : tie.Need-same-length
 same-length c = search needs
 
-same-length-2 : tie.Need-same-length-2
-same-length-2 c = search needs
-
 returns : tie.Need-returns
 returns c =
-    let r = c .before .before in
-    let m = r .before .before .before .before in
-    let j = m .before .before .before .before in
-    let k = j .before .before .before .before .before .args in (
-      j .judge .ensures .1,
-      refusal-put (k .trace .now) (k .area .now) (out (k .text .now) 0) (equal-by (j .judge .ensures .0) (m .refusal .given .1)) (r .before .number .ensures) (r .refusal2 .ensures),
-    )
-
-same-length-3 : tie.Need-same-length-3
-same-length-3 c = search needs
-
-same-length-4 : tie.Need-same-length-4
-same-length-4 c = search needs
-
-returns-2 : tie.Need-returns-2
-returns-2 c =
-    let f = c .before .before in
-    let g = f .before .before .before .before in
-    let h = g .before .before .before .before .before in
-    let t = h .before .before in
-    let m = t .before .before in
-    let j = m .before .before .before .before in
-    let k = j .before .before .before .before .before .args in (
-      j .judge .ensures .1,
-      listing-put (k .trace .now) (k .area .now) (out (k .text .now) 0) (equal-by (j .judge .ensures .0) (m .events .given .1))
-          (ap (λ (t : Trailer). t .lines) (t .trailer .ensures)) (j .judge .ensures .1) (h .head .ensures) (g .findings .ensures) (f .foot .ensures),
-    )
+    let k = c .before .before .before .before .before .before .before .args in
+    let r = c .before .before .put-report .ensures in
+    let w = report-whole (k .trace .now) (k .area .now) (k .text .now) (omega arith) (r .1) in
+    (r .0, ((w .within, w .counted), (w .report, w .beyond)))
 
 pub report-spec : {M : Type 1} → statement M
-report-spec =
-    tie.close
-    (tie.spec
-    judge-requires
-    enum-known-refusal
-    number-requires
-    refusal-requires
-    enum-known-events
-    trailer-requires
-    head-requires
-    findings-requires
-    foot-requires
-    same-length
-    same-length-2
-    returns
-    same-length-3
-    same-length-4
-    returns-2)
+report-spec = tie.close (tie.spec put-report-requires same-length returns)
