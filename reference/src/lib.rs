@@ -1,0 +1,89 @@
+//! An unrelated checker for traces of persistent-memory events: stores, write-backs, fences and
+//! undo-log transactions of one thread on x86.
+//!
+//! It judges a trace in two ways that share no rule about crash images:
+//!
+//! - [`judge_by_images`] keeps the list of events and enumerates the crash images of every
+//!   assertion (module [`images`]);
+//! - [`judge`] goes from event to event with what it knows of each line (module [`direct`]).
+//!
+//! Both read the trace file with the same code (module [`trace`]).
+
+pub mod check;
+pub mod corpus;
+pub mod direct;
+pub mod event;
+pub mod finding;
+pub mod images;
+pub mod outcome;
+pub mod random;
+pub mod script;
+pub mod trace;
+
+pub use event::{Event, Range, Record};
+pub use finding::{Finding, Kind};
+pub use outcome::{area_after, findings_bytes, listing, Outcome, Refusal, Report, Totals};
+
+/// A way to judge events one after another, from a fresh window.
+pub trait Way {
+    /// A fresh window of 1 to 64 lines.
+    fn fresh(lines: u16) -> Self;
+
+    /// Takes an event whose ranges are good. Refusals 10 to 12; a refused event changes nothing.
+    fn give(&mut self, record: &Record) -> Result<Finding, u8>;
+
+    /// Closes the run. Refusal 13.
+    fn close(&self) -> Result<Totals, u8>;
+}
+
+/// Judges a trace the direct way, for a findings area of `area_len` bytes.
+pub fn judge(trace: &[u8], area_len: usize) -> Outcome {
+    judge_with::<direct::Run>(trace, area_len)
+}
+
+/// Judges a trace by enumerating crash images. Their number grows quickly: see
+/// [`images::small_enough`].
+pub fn judge_by_images(trace: &[u8], area_len: usize) -> Outcome {
+    judge_with::<images::History>(trace, area_len)
+}
+
+/// Judges a trace in the given way.
+pub fn judge_with<W: Way>(trace: &[u8], area_len: usize) -> Outcome {
+    let body = match trace::open(trace) {
+        Ok(body) => body,
+        Err(number) => return Outcome::refused(number, 0),
+    };
+    if area_len < trace::RECORD * body.count() {
+        return Outcome::refused(14, 0);
+    }
+    let mut way = W::fresh(body.lines);
+    let mut findings = Vec::with_capacity(body.count());
+    for (at, bytes) in body.record_bytes().enumerate() {
+        let taken = trace::decode(bytes, body.lines).and_then(|record| way.give(&record));
+        match taken {
+            Ok(finding) => findings.push(finding),
+            Err(number) => return Outcome::refused(number, at + 1),
+        }
+    }
+    match way.close() {
+        Ok(totals) => Outcome::Accepted(Report {
+            lines: body.lines,
+            totals,
+            findings,
+        }),
+        Err(number) => Outcome::refused(number, 0),
+    }
+}
+
+/// The findings of a list of events in the given way, whether a transaction stays open or not;
+/// or the refusal of the first event that is refused.
+pub fn findings_with<W: Way>(lines: u16, records: &[Record]) -> Result<Vec<Finding>, Refusal> {
+    let mut way = W::fresh(lines);
+    let give = |(at, record)| {
+        way.give(record).map_err(|number| Refusal {
+            number,
+            record: at + 1,
+        })
+    };
+    records.iter().enumerate().map(give).collect()
+}

@@ -1,0 +1,168 @@
+//! The command: its output, its messages and its exit status.
+
+use std::io::Write;
+use std::path::PathBuf;
+use std::process::{Command, Output, Stdio};
+
+const SCRIPT: &str = "lines 2
+store 0/8 site 10
+persisted 0/8 site 11
+expect lost 0 0 2 1
+";
+const LISTING: &str = "trace 2 events 2 lines\n2 11 lost 0 0 2 1\nend 1\n";
+
+fn run(args: &[&str], input: &[u8]) -> Output {
+    let mut child = Command::new(env!("CARGO_BIN_EXE_reference"))
+        .args(args)
+        .stdin(Stdio::piped())
+        .stdout(Stdio::piped())
+        .stderr(Stdio::piped())
+        .spawn()
+        .expect("the command starts");
+    let mut stdin = child.stdin.take().expect("standard input is a pipe");
+    // A command that does not read its input closes the pipe.
+    let _ = stdin.write_all(input);
+    drop(stdin);
+    child.wait_with_output().expect("the command ends")
+}
+
+/// A folder of its own for each test.
+fn folder(test: &str) -> PathBuf {
+    let folder = PathBuf::from(env!("CARGO_TARGET_TMPDIR")).join(test);
+    std::fs::create_dir_all(&folder).expect("a folder for the test");
+    folder
+}
+
+fn text(bytes: &[u8]) -> &str {
+    std::str::from_utf8(bytes).expect("text")
+}
+
+fn fails(args: &[&str], input: &[u8], words: &str) {
+    let output = run(args, input);
+    let error = text(&output.stderr);
+    assert_eq!(output.status.code(), Some(2), "{args:?}: {error}");
+    assert!(error.contains(words), "{args:?}: {error}");
+    assert_eq!(error.lines().count(), 1, "{args:?}: {error}");
+    assert!(output.stdout.is_empty());
+}
+
+#[test]
+fn write_and_judge() {
+    let folder = folder("write_and_judge");
+    let (script, trace) = (folder.join("a.events"), folder.join("a.trace"));
+    let (script, trace) = (
+        script.to_str().expect("text"),
+        trace.to_str().expect("text"),
+    );
+    std::fs::write(script, SCRIPT).expect("written");
+    assert!(run(&["write", script, trace], b"").status.success());
+    let bytes = std::fs::read(trace).expect("the trace is written");
+    assert_eq!(bytes.len(), 40);
+    assert_eq!(run(&["write", script], b"").stdout, bytes);
+    assert_eq!(run(&["write", "-"], SCRIPT.as_bytes()).stdout, bytes);
+    for args in [&["judge", trace][..], &["judge", "--images", trace]] {
+        let output = run(args, b"");
+        assert_eq!(text(&output.stdout), LISTING);
+        assert_eq!(output.status.code(), Some(0));
+    }
+    let output = run(&["judge", "-"], &bytes);
+    assert_eq!(text(&output.stdout), LISTING);
+    let output = run(&["judge", "-"], &bytes[1..]);
+    assert_eq!(text(&output.stdout), "refused 5 at 0\n");
+    let output = run(&["judge", "-"], &vec![0; 200_000]);
+    assert_eq!(text(&output.stdout), "refused 2 at 0\n");
+    let output = run(&["judge", "--images", "-"], b"");
+    assert_eq!(text(&output.stdout), "refused 1 at 0\n");
+}
+
+#[test]
+fn check() {
+    let folder = folder("check");
+    let path = |name: &str| folder.join(name).to_str().expect("text").to_string();
+    let (good, wrong, bad) = (
+        path("good.events"),
+        path("wrong.events"),
+        path("bad.events"),
+    );
+    std::fs::write(&good, SCRIPT).expect("written");
+    std::fs::write(&wrong, SCRIPT.replace("lost 0", "lost 1")).expect("written");
+    std::fs::write(&bad, "lines 2\nstor 0/8\n").expect("written");
+    let output = run(&["check", &good], b"");
+    assert_eq!(output.status.code(), Some(0));
+    assert!(text(&output.stdout).starts_with(&format!("{good}: same: ")));
+    let output = run(&["check", &good, &wrong, &good], b"");
+    assert_eq!(output.status.code(), Some(1));
+    let lines: Vec<&str> = text(&output.stdout).lines().collect();
+    assert_eq!(lines.len(), 3);
+    assert!(
+        lines[1].starts_with(&format!("{wrong}: differs: ")),
+        "{}",
+        lines[1]
+    );
+    let output = run(&["check", &wrong, &bad, &good], b"");
+    assert_eq!(output.status.code(), Some(2));
+    assert_eq!(text(&output.stdout).lines().count(), 2);
+    let error = text(&output.stderr);
+    assert!(error.starts_with(&format!("{bad}:2: ")), "{error}");
+}
+
+#[test]
+fn corpus() {
+    let folder = folder("corpus");
+    let path = |name: &str| folder.join(name).to_str().expect("text").to_string();
+    let (corpus, summary) = (path("stdin"), path("stdout"));
+    let output = run(&["corpus", &corpus, &summary], b"");
+    assert_eq!(output.status.code(), Some(0));
+    assert!(text(&output.stderr).contains("judged both ways"));
+    let summary = std::fs::read_to_string(summary).expect("written");
+    assert!(summary.starts_with("traces "));
+    let length = std::fs::metadata(corpus).expect("written").len();
+    assert!(length > 100_000);
+}
+
+#[test]
+fn help() {
+    let output = run(&["--help"], b"");
+    assert_eq!(output.status.code(), Some(0));
+    for word in ["write", "judge", "check", "corpus", "--images"] {
+        assert!(text(&output.stdout).contains(word), "{word}");
+    }
+}
+
+#[test]
+fn bad_usage() {
+    fails(&[], b"", "a command is missing");
+    fails(&["jugde"], b"", "no command `jugde`");
+    for args in [
+        &["judge"][..],
+        &["judge", "--images"],
+        &["judge", "a", "b"],
+        &["judge", "--image", "a"],
+        &["write"],
+        &["write", "a", "b", "c"],
+        &["check"],
+        &["corpus", "a"],
+        &["corpus", "a", "b", "c"],
+    ] {
+        fails(args, b"", "wrong arguments");
+    }
+}
+
+#[test]
+fn bad_files() {
+    let folder = folder("bad_files");
+    let here = folder.to_str().expect("text").to_string();
+    let missing = folder.join("missing").to_str().expect("text").to_string();
+    let inside = folder.join("no/such").to_str().expect("text").to_string();
+    for command in ["judge", "write", "check"] {
+        fails(&[command, &missing], b"", "missing: ");
+        fails(&[command, &here], b"", "directory");
+    }
+    fails(&["write", "-", &here], SCRIPT.as_bytes(), "directory");
+    fails(&["write", "-", &inside], SCRIPT.as_bytes(), "no/such: ");
+    fails(&["write", "-"], b"lines 2\n\nflush 0/8\n", "-:3: ");
+    fails(&["write", "-"], b"lines 2\n\xff", "-: not text in UTF-8");
+    let many = "lines 64\n".to_string() + &"store 0/4096\n".repeat(129);
+    let trace = run(&["write", "-"], many.as_bytes()).stdout;
+    fails(&["judge", "--images", "-"], &trace, "too many crash images");
+}

@@ -1,0 +1,187 @@
+//! The two ways compared on all traces up to a length over an alphabet of events.
+
+use reference::direct::Run;
+use reference::images::History;
+use reference::{findings_with, judge, judge_by_images, script, trace, Event, Kind, Outcome};
+use reference::{Range, Record};
+use std::sync::Mutex;
+
+/// Tests that use threads run one at a time.
+static ONE_AT_A_TIME: Mutex<()> = Mutex::new(());
+const THREADS: usize = 2;
+const LINES: u16 = 2;
+
+const fn r(address: u16, length: u16) -> Range {
+    Range::new(address, length)
+}
+
+/// Stores, write-backs and assertions on both lines and across their border, and transactions.
+const EVERYTHING: [Event; 16] = [
+    Event::Store(r(60, 8)),
+    Event::Store(r(56, 6)),
+    Event::Store(r(66, 4)),
+    Event::WriteBack(r(56, 2)),
+    Event::WriteBack(r(60, 8)),
+    Event::WriteBack(r(66, 2)),
+    Event::Fence,
+    Event::Persisted(r(56, 16)),
+    Event::Persisted(r(58, 4)),
+    Event::Ordered(r(56, 8), r(64, 6)),
+    Event::Ordered(r(58, 8), r(56, 12)),
+    Event::Ordered(r(60, 4), r(56, 4)),
+    Event::Ordered(r(64, 6), r(58, 4)),
+    Event::Begin,
+    Event::Log(r(58, 8)),
+    Event::End,
+];
+
+/// Stores to three places of one line and one of the other, for longer histories.
+const ASSERTIONS: [Event; 9] = [
+    Event::Store(r(62, 4)),
+    Event::Store(r(62, 2)),
+    Event::Store(r(65, 2)),
+    Event::WriteBack(r(63, 1)),
+    Event::WriteBack(r(64, 1)),
+    Event::Fence,
+    Event::Persisted(r(62, 5)),
+    Event::Ordered(r(62, 3), r(63, 4)),
+    Event::Ordered(r(64, 3), r(62, 3)),
+];
+
+/// Nested transactions and logs.
+const TRANSACTIONS: [Event; 8] = [
+    Event::Begin,
+    Event::End,
+    Event::Log(r(62, 3)),
+    Event::Log(r(60, 4)),
+    Event::Store(r(62, 4)),
+    Event::Store(r(60, 2)),
+    Event::WriteBack(r(60, 8)),
+    Event::Fence,
+];
+
+/// How often each kind of finding and each refusal came up.
+#[derive(Clone, Debug, Default)]
+struct Tally {
+    traces: usize,
+    kinds: [usize; 9],
+    refused: [usize; 15],
+}
+
+impl Tally {
+    fn add(&mut self, outcome: &Outcome) {
+        self.traces += 1;
+        match outcome {
+            Outcome::Accepted(report) => {
+                for finding in &report.findings {
+                    self.kinds[usize::from(finding.kind.number())] += 1;
+                }
+            }
+            Outcome::Refused(refusal) => self.refused[usize::from(refusal.number)] += 1,
+        }
+    }
+
+    fn join(&mut self, other: &Tally) {
+        self.traces += other.traces;
+        let kinds = self.kinds.iter_mut().zip(other.kinds);
+        let refused = self.refused.iter_mut().zip(other.refused);
+        kinds.chain(refused).for_each(|(sum, more)| *sum += more);
+    }
+}
+
+/// The word with this number among those of one length, behind the events of `front`.
+fn word(front: &[Event], alphabet: &[Event], length: usize, mut number: usize) -> Vec<Record> {
+    let mut events = front.to_vec();
+    for _ in 0..length {
+        events.push(alphabet[number % alphabet.len()]);
+        number /= alphabet.len();
+    }
+    let with_site = |(event, site)| Record { event, site };
+    events.into_iter().zip(100..).map(with_site).collect()
+}
+
+fn compare(records: &[Record]) -> Outcome {
+    let trace = trace::write(LINES, &[], records);
+    let area = trace::RECORD * records.len();
+    let direct = judge(&trace, area);
+    let enumerated = judge_by_images(&trace, area);
+    let text = || script::text_of(&trace).expect("the trailer is good");
+    assert_eq!(direct, enumerated, "{}", text());
+    // A transaction left open refuses the trace: compare its findings too.
+    if direct == Outcome::refused(13, 0) {
+        let direct = findings_with::<Run>(LINES, records);
+        let enumerated = findings_with::<History>(LINES, records);
+        assert!(direct.is_ok());
+        assert_eq!(direct, enumerated, "{}", text());
+    }
+    direct
+}
+
+/// Compares all traces of `front` and then `lengths` events of the alphabet.
+fn compare_all(
+    front: &[Event],
+    alphabet: &[Event],
+    lengths: std::ops::RangeInclusive<usize>,
+) -> Tally {
+    let _guard = ONE_AT_A_TIME
+        .lock()
+        .unwrap_or_else(|poisoned| poisoned.into_inner());
+    let mut tally = Tally::default();
+    for length in lengths {
+        let words = alphabet.len().pow(length as u32);
+        let share = |first: usize| {
+            let mut tally = Tally::default();
+            for number in (first..words).step_by(THREADS) {
+                tally.add(&compare(&word(front, alphabet, length, number)));
+            }
+            tally
+        };
+        std::thread::scope(|scope| {
+            let shares: Vec<_> = (0..THREADS)
+                .map(|first| scope.spawn(move || share(first)))
+                .collect();
+            for share in shares {
+                tally.join(&share.join().expect("the two ways agree"));
+            }
+        });
+    }
+    println!("{tally:?}");
+    tally
+}
+
+fn assert_found(tally: &Tally, kinds: &[Kind]) {
+    for kind in kinds {
+        assert!(tally.kinds[usize::from(kind.number())] > 0, "no {kind:?}");
+    }
+}
+
+#[test]
+fn everything_up_to_five_events() {
+    let tally = compare_all(&[], &EVERYTHING, 0..=5);
+    assert_eq!(tally.traces, 1 + 16 + 256 + 4_096 + 65_536 + 1_048_576);
+    assert_found(&tally, &Kind::ALL);
+    assert!(tally.refused[11] > 0 && tally.refused[13] > 0);
+}
+
+#[test]
+fn assertions_with_six_events() {
+    let tally = compare_all(&[], &ASSERTIONS, 6..=6);
+    assert_eq!(tally.traces, 531_441);
+    assert_found(&tally, &[Kind::Holds, Kind::Lost, Kind::OutOfOrder]);
+    assert_eq!(tally.refused.iter().sum::<usize>(), 0);
+}
+
+#[test]
+fn begin_and_six_events() {
+    let tally = compare_all(&[Event::Begin], &TRANSACTIONS, 6..=6);
+    assert_eq!(tally.traces, 262_144);
+    let kinds = [
+        Kind::Holds,
+        Kind::Lost,
+        Kind::Unlogged,
+        Kind::LoggedTwice,
+        Kind::Empty,
+    ];
+    assert_found(&tally, &kinds);
+    assert!(tally.refused[11] > 0 && tally.refused[13] > 0);
+}

@@ -1,0 +1,104 @@
+//! The two ways compared on seeded random traces, longer than the exhaustive ones.
+//!
+//! Most have windows of 1 to 4 lines, ranges of at most 16 bytes, 6 to 30 events and the ends
+//! behind them; some have any window, any range and up to 39 events. A trace whose images need
+//! more than `images::SMALL_EFFORT` marks is passed over; the tests count those compared.
+
+use reference::random::{self, Random};
+use reference::{images, judge, judge_by_images, script, Kind, Outcome};
+
+/// Compares the two ways on `count` traces, and gives the outcomes of those small enough.
+fn compare(seed: u64, count: usize, make: fn(&mut Random) -> Vec<u8>) -> Vec<Outcome> {
+    let mut random = Random::new(seed);
+    let mut outcomes = Vec::new();
+    for _ in 0..count {
+        let trace = make(&mut random);
+        let area = if random.chance(1, 50) { 24 } else { 65_536 };
+        if !images::small_enough(&trace) {
+            continue;
+        }
+        let direct = judge(&trace, area);
+        let enumerated = judge_by_images(&trace, area);
+        let text = || script::text_of(&trace).unwrap_or_else(|| format!("{trace:?}"));
+        assert_eq!(direct, enumerated, "seed {seed}\n{}", text());
+        outcomes.push(direct);
+    }
+    println!("seed {seed}: {} of {count} compared", outcomes.len());
+    outcomes
+}
+
+fn count_of(outcomes: &[Outcome], kind: Kind) -> usize {
+    let reports = outcomes.iter().filter_map(Outcome::report);
+    let findings = reports.flat_map(|report| &report.findings);
+    findings.filter(|finding| finding.kind == kind).count()
+}
+
+fn refusals(outcomes: &[Outcome], number: u8) -> usize {
+    let refused = outcomes.iter().filter_map(Outcome::refusal);
+    refused.filter(|refusal| refusal.number == number).count()
+}
+
+fn valid_small(random: &mut Random) -> Vec<u8> {
+    let shape = random::small_shape(random);
+    random::valid(random, &shape)
+}
+
+fn damaged_small(random: &mut Random) -> Vec<u8> {
+    let shape = random::small_shape(random);
+    random::damaged(random, &shape)
+}
+
+fn assert_valid(outcomes: &[Outcome], count: usize) {
+    assert!(outcomes.len() > count * 9 / 10, "{}", outcomes.len());
+    let too_short = outcomes.iter().filter_map(Outcome::refusal);
+    assert!(too_short.into_iter().all(|refusal| refusal.number == 14));
+    for kind in Kind::ALL {
+        assert!(count_of(outcomes, kind) > 100, "few {kind:?}");
+    }
+}
+
+#[test]
+fn valid_traces() {
+    assert_valid(&compare(1, 20_000, valid_small), 20_000);
+}
+
+#[test]
+fn more_valid_traces() {
+    assert_valid(&compare(2, 20_000, valid_small), 20_000);
+}
+
+#[test]
+fn damaged_traces() {
+    let outcomes = compare(3, 30_000, damaged_small);
+    assert!(outcomes.len() > 27_000, "{}", outcomes.len());
+    for number in [1, 3, 4, 5, 14, 6, 7, 8, 9, 11, 12, 13] {
+        assert!(refusals(&outcomes, number) > 0, "never refused by {number}");
+    }
+    let accepted = outcomes.iter().filter_map(Outcome::report).count();
+    assert!(accepted > 1_000, "{accepted}");
+}
+
+/// Windows of up to 64 lines and ranges of up to 4,096 bytes.
+#[test]
+fn any_window() {
+    let outcomes = compare(4, 6_000, |random| {
+        let shape = random::any_shape(random);
+        random::valid(random, &shape)
+    });
+    assert!(outcomes.len() > 3_000, "{}", outcomes.len());
+    for kind in Kind::ALL {
+        assert!(count_of(&outcomes, kind) > 100, "few {kind:?}");
+    }
+}
+
+/// The same seed gives the same traces.
+#[test]
+fn seeds_repeat() {
+    let make = |seed| {
+        let mut random = Random::new(seed);
+        let traces = (0..50).map(|_| damaged_small(&mut random));
+        traces.collect::<Vec<_>>()
+    };
+    assert_eq!(make(7), make(7));
+    assert_ne!(make(7), make(8));
+}

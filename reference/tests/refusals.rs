@@ -1,0 +1,248 @@
+//! Every refusal that a trace can get, with its order, against answers written by hand.
+
+use reference::trace::{assemble, encode, raw_record, raw_trailer, MARK};
+use reference::{judge, judge_by_images, Event, Outcome, Range, Record};
+
+const NOTHING: Range = Range::new(0, 0);
+
+fn refused(trace: &[u8], area: usize, number: u8, record: usize) {
+    let expected = Outcome::refused(number, record);
+    assert_eq!(judge(trace, area), expected, "{trace:?}");
+    assert_eq!(judge_by_images(trace, area), expected, "{trace:?}");
+}
+
+fn accepted(trace: &[u8], area: usize) {
+    assert!(judge(trace, area).report().is_some(), "{trace:?}");
+    assert!(judge_by_images(trace, area).report().is_some(), "{trace:?}");
+}
+
+fn event(event: Event) -> [u8; 12] {
+    encode(&Record { event, site: 5 })
+}
+
+fn fence() -> [u8; 12] {
+    event(Event::Fence)
+}
+
+/// A record behind a fence, and before another, in a window of two lines.
+fn second(record: [u8; 12]) -> Vec<u8> {
+    assemble(2, &[], &[fence(), record, fence()])
+}
+
+#[test]
+fn lengths() {
+    let trailer = raw_trailer(MARK, 0, 0, 2, 0);
+    for length in 0..16 {
+        refused(&trailer[..length], 0, 1, 0);
+        refused(&trailer[16 - length..], 0, 1, 0);
+    }
+    accepted(&trailer, 0);
+    let longest = assemble(1, &vec![7; 65_520], &[]);
+    assert_eq!(longest.len(), 65_536);
+    accepted(&longest, 0);
+    refused(&assemble(1, &vec![7; 65_521], &[]), 0, 2, 0);
+    refused(&vec![0; 70_000], 0, 2, 0);
+    let records = vec![fence(); 5_460];
+    let largest = assemble(64, &[], &records);
+    assert_eq!(largest.len(), 65_536);
+    let events = judge(&largest, 65_520).report().map(|r| r.totals.events);
+    assert_eq!(events, Some(5_460));
+}
+
+#[test]
+fn trailers() {
+    for byte in 0..4 {
+        let mut mark = MARK;
+        mark[byte] ^= 0x20;
+        refused(&raw_trailer(mark, 0, 0, 2, 0), 0, 3, 0);
+    }
+    for lines in [1, 2, 63, 64] {
+        accepted(&raw_trailer(MARK, 0, 0, lines, 0), 0);
+    }
+    for lines in [0, 65, 256, 257, 65_535] {
+        refused(&raw_trailer(MARK, 0, 0, lines, 0), 0, 4, 0);
+    }
+    for zero in [1, 256, 65_535] {
+        refused(&raw_trailer(MARK, 0, 0, 2, zero), 0, 4, 0);
+    }
+}
+
+#[test]
+fn sums() {
+    for (offset, count) in [(1, 0), (0, 1), (u32::MAX, 0), (0, u32::MAX)] {
+        refused(&raw_trailer(MARK, offset, count, 2, 0), 0, 5, 0);
+    }
+    // Right in 32 bits, wrong in more.
+    for (offset, count) in [
+        (0, 0x4000_0000),
+        (0u32.wrapping_sub(12), 1),
+        (0x8000_0000, 0x2000_0000),
+        (4, 0x5555_5555),
+    ] {
+        assert_eq!(offset.wrapping_add(12u32.wrapping_mul(count)), 0);
+        refused(&raw_trailer(MARK, offset, count, 2, 0), 0, 5, 0);
+    }
+}
+
+#[test]
+fn areas() {
+    let trace = assemble(2, &[1, 2, 3], &[fence(), fence()]);
+    for area in [0, 12, 23] {
+        refused(&trace, area, 14, 0);
+    }
+    for area in [24, 25, 1000] {
+        accepted(&trace, area);
+    }
+}
+
+#[test]
+fn kinds() {
+    for kind in (0..=255).filter(|kind| !(1..=8).contains(kind)) {
+        refused(&second(raw_record(kind, 0, NOTHING, NOTHING, 0)), 36, 6, 2);
+    }
+}
+
+#[test]
+fn lacking_fields() {
+    let a = Range::new(0, 8);
+    for kind in 1..=8 {
+        let has_a = ![Event::FENCE, Event::BEGIN, Event::END].contains(&kind);
+        let has_b = kind == Event::ORDERED;
+        let used_a = if has_a { a } else { NOTHING };
+        let used_b = if has_b { a } else { NOTHING };
+        let good = raw_record(kind, 0, used_a, used_b, 0xffff);
+        for byte in 1..10 {
+            let lacking = match byte {
+                1 => true,
+                2..=5 => !has_a,
+                _ => !has_b,
+            };
+            let mut record = good;
+            record[byte] |= 0x80;
+            if lacking {
+                refused(&second(record), 36, 7, 2);
+            } else {
+                // The field is used: the range now runs past the window or stays inside.
+                let refusal = judge(&second(record), 36).refusal();
+                assert_ne!(refusal.map(|refusal| refusal.number), Some(7));
+            }
+        }
+    }
+}
+
+#[test]
+fn lengths_of_0() {
+    let (good, empty) = (Range::new(0, 8), Range::new(8, 0));
+    let far = Range::new(60_000, 0);
+    for range in [empty, far] {
+        refused(&second(event(Event::Store(range))), 36, 8, 2);
+        refused(&second(event(Event::WriteBack(range))), 36, 8, 2);
+        refused(&second(event(Event::Log(range))), 36, 8, 2);
+        refused(&second(event(Event::Persisted(range))), 36, 8, 2);
+        refused(&second(event(Event::Ordered(range, good))), 36, 8, 2);
+        refused(&second(event(Event::Ordered(good, range))), 36, 8, 2);
+    }
+    let past = Range::new(128, 1);
+    refused(&second(event(Event::Ordered(past, empty))), 36, 8, 2);
+}
+
+#[test]
+fn ranges() {
+    for lines in [1u16, 2, 63, 64] {
+        let window = lines * 64;
+        let inside = [
+            Range::new(0, window),
+            Range::new(window - 1, 1),
+            Range::new(window - 8, 8),
+        ];
+        for range in inside {
+            accepted(&assemble(lines, &[], &[event(Event::Store(range))]), 12);
+        }
+        let past = [
+            Range::new(window, 1),
+            Range::new(0, window + 1),
+            Range::new(window - 7, 8),
+            Range::new(65_535, 1),
+            Range::new(65_535, 65_535),
+            Range::new(1, 65_535),
+        ];
+        for range in past {
+            let good = Range::new(0, 1);
+            for bad in [
+                Event::Store(range),
+                Event::WriteBack(range),
+                Event::Log(range),
+                Event::Persisted(range),
+                Event::Ordered(range, good),
+                Event::Ordered(good, range),
+            ] {
+                refused(&assemble(lines, &[], &[fence(), event(bad)]), 24, 9, 2);
+            }
+        }
+    }
+}
+
+#[test]
+fn transactions() {
+    let (begin, end) = (event(Event::Begin), event(Event::End));
+    let log = event(Event::Log(Range::new(0, 8)));
+    refused(&assemble(2, &[], &[end]), 12, 11, 1);
+    refused(&assemble(2, &[], &[log]), 12, 11, 1);
+    refused(&assemble(2, &[], &[begin, end, log]), 36, 11, 3);
+    refused(&assemble(2, &[], &[begin, end, end]), 36, 11, 3);
+    refused(&assemble(2, &[], &[begin; 9]), 108, 12, 9);
+    refused(&assemble(2, &[], &[begin; 8]), 96, 13, 0);
+    refused(&assemble(2, &[], &[begin]), 12, 13, 0);
+    accepted(&assemble(2, &[], &[begin, log, end]), 36);
+    accepted(&assemble(2, &[], &[[begin; 8], [end; 8]].concat()), 192);
+}
+
+/// The order 1, 2, 3, 4, 5, 14, then record by record, then 13.
+#[test]
+fn order() {
+    let bad = event(Event::End);
+    let trace = |trailer: [u8; 16]| [bad.as_slice(), &trailer].concat();
+    refused(b"PTR", 0, 1, 0);
+    refused(&[vec![0; 65_521], vec![1; 16]].concat(), 0, 2, 0);
+    refused(&trace(raw_trailer(*b"PTRa", 9, 9, 99, 9)), 0, 3, 0);
+    refused(&trace(raw_trailer(MARK, 9, 9, 99, 9)), 0, 4, 0);
+    refused(&trace(raw_trailer(MARK, 9, 9, 9, 9)), 0, 4, 0);
+    refused(&trace(raw_trailer(MARK, 9, 9, 9, 0)), 0, 5, 0);
+    refused(&trace(raw_trailer(MARK, 0, 1, 9, 0)), 0, 14, 0);
+    refused(&trace(raw_trailer(MARK, 0, 1, 9, 0)), 12, 11, 1);
+    // In one record.
+    let past = Range::new(999, 9);
+    refused(&second(raw_record(9, 1, past, past, 0)), 36, 6, 2);
+    refused(
+        &second(raw_record(Event::LOG, 1, NOTHING, past, 0)),
+        36,
+        7,
+        2,
+    );
+    refused(
+        &second(raw_record(Event::LOG, 0, Range::new(999, 0), NOTHING, 0)),
+        36,
+        8,
+        2,
+    );
+    refused(
+        &second(raw_record(Event::LOG, 0, past, NOTHING, 0)),
+        36,
+        9,
+        2,
+    );
+    let mut begins = [event(Event::Begin); 9];
+    begins[8][1] = 1;
+    refused(&assemble(2, &[], &begins), 108, 7, 9);
+    // The earlier record counts, and 13 comes last.
+    let unknown = raw_record(9, 0, NOTHING, NOTHING, 0);
+    let begin = event(Event::Begin);
+    refused(&assemble(2, &[], &[fence(), bad, unknown]), 36, 11, 2);
+    refused(&assemble(2, &[], &[begin, unknown]), 24, 6, 2);
+    refused(
+        &assemble(2, &[], &[[begin; 9].to_vec(), vec![unknown]].concat()),
+        120,
+        12,
+        9,
+    );
+}
