@@ -1,0 +1,26 @@
+-- The start of a buffer, as far as bytes were read or put there.
+use mathlib.Core.Path.{_≡_, sym, ap, _∙_}
+use mathlib.Core.List.{List, _++_}
+use Prim.Native.Nat.{ℕ, _≤_}
+use native.Mathlib.Omega.{arith}
+use lib.ListN.{length, length-append}
+use lib.Seq.{length-take-le}
+use Rattle.io.specs.Counts.{Counts}
+use Rattle.listing.specs.Text.{Out, out, put}
+use Rattle.listing.proofs.Filled.{filled}
+
+-- so many bytes at the start
+pub counts : (n : ℕ) (buf : List ℕ) → n ≤ length buf → Counts n buf
+counts n buf k = (k, sym (length-take-le n buf k))
+
+-- read into a part at the start
+pub counts-read : (n : ℕ) (front rest : List ℕ) → n ≤ length front → Counts n (front ++ rest)
+counts-read n front rest k = counts n (front ++ rest) (omega (arith, length-append front rest))
+
+-- put as text: as much of it as there is room for
+pub counts-put : (s d e : List ℕ) (n : ℕ) → length e ≡ length d → out e n ≡ put s (out d 0) → Counts n e
+counts-put s d e n same k = counts n e (omega (arith, ap (λ (o : Out). o .next) (k ∙ filled s d)))
+
+-- and in another buffer of the same length
+pub counts-other : {n : ℕ} (buf other : List ℕ) → length buf ≡ length other → Counts n buf → Counts n other
+counts-other {n} buf other same k = counts n other (omega arith)
