@@ -23,94 +23,43 @@ number-at t = and 1 number-kinds.ps (is 1 number-kinds.ps μ-number t) number.Pr
 abbrev number-below : ℕ → In 1 number-kinds.ps
 number-below t = and 1 number-kinds.ps (falls 1 number-kinds.ps _<_ μ-number t) number.Pre
 
-number-cast-put-byte : (t : ℕ) → number-lts.Need-cast-put-byte (
-  put-byte-reads.Asked,
-  put-byte-reads.Learnt,
-  number-below t,
-  number.Post,
-) (number-at t) number.Post
+-- what the calls ask and give: that of `put_byte`, and that of `number` itself
+abbrev calls : ℕ → number-lts.Claims
+calls t = (put-byte-reads.Asked, put-byte-reads.Learnt, number-below t, number.Post)
+
+number-cast-put-byte : (t : ℕ) → number-lts.Need-cast-put-byte (calls t) (number-at t) number.Post
 number-cast-put-byte t c = search needs
 
-number-add-put-byte : (t : ℕ) → number-lts.Need-add-put-byte (
-  put-byte-reads.Asked,
-  put-byte-reads.Learnt,
-  number-below t,
-  number.Post,
-) (number-at t) number.Post
+number-add-put-byte : (t : ℕ) → number-lts.Need-add-put-byte (calls t) (number-at t) number.Post
 number-add-put-byte t c = search needs
 
-number-put-byte-requires : (t : ℕ) → number-lts.Need-put-byte-requires (
-  put-byte-reads.Asked,
-  put-byte-reads.Learnt,
-  number-below t,
-  number.Post,
-) (number-at t) number.Post
+number-put-byte-requires : (t : ℕ) → number-lts.Need-put-byte-requires (calls t) (number-at t) number.Post
 number-put-byte-requires t c κs = search needs
 
-number-same-length : (t : ℕ) → number-lts.Need-same-length (
-  put-byte-reads.Asked,
-  put-byte-reads.Learnt,
-  number-below t,
-  number.Post,
-) (number-at t) number.Post
+number-same-length : (t : ℕ) → number-lts.Need-same-length (calls t) (number-at t) number.Post
 number-same-length t c = search needs
 
-number-returns : (t : ℕ) → number-lts.Need-returns (
-  put-byte-reads.Asked,
-  put-byte-reads.Learnt,
-  number-below t,
-  number.Post,
-) (number-at t) number.Post
+number-returns : (t : ℕ) → number-lts.Need-returns (calls t) (number-at t) number.Post
 number-returns t c =
     let k = c .before .before .before .before .before .before .args in
     c .before .before .put-byte .ensures ∙ digit-put (k .n) (out (k .text .now) (k .at)) (omega arith)
 
-number-number-requires : (t : ℕ) → number-lts.Need-number-requires (
-  put-byte-reads.Asked,
-  put-byte-reads.Learnt,
-  number-below t,
-  number.Post,
-) (number-at t) number.Post
+number-number-requires : (t : ℕ) → number-lts.Need-number-requires (calls t) (number-at t) number.Post
 number-number-requires t c κs = (omega arith, tt)
 
-number-cast-put-byte-2 : (t : ℕ) → number-lts.Need-cast-put-byte-2 (
-  put-byte-reads.Asked,
-  put-byte-reads.Learnt,
-  number-below t,
-  number.Post,
-) (number-at t) number.Post
+number-cast-put-byte-2 : (t : ℕ) → number-lts.Need-cast-put-byte-2 (calls t) (number-at t) number.Post
 number-cast-put-byte-2 t c = search needs
 
-number-add-put-byte-2 : (t : ℕ) → number-lts.Need-add-put-byte-2 (
-  put-byte-reads.Asked,
-  put-byte-reads.Learnt,
-  number-below t,
-  number.Post,
-) (number-at t) number.Post
+number-add-put-byte-2 : (t : ℕ) → number-lts.Need-add-put-byte-2 (calls t) (number-at t) number.Post
 number-add-put-byte-2 t c = search needs
 
-number-put-byte-requires-2 : (t : ℕ) → number-lts.Need-put-byte-requires-2 (
-  put-byte-reads.Asked,
-  put-byte-reads.Learnt,
-  number-below t,
-  number.Post,
-) (number-at t) number.Post
+number-put-byte-requires-2 : (t : ℕ) → number-lts.Need-put-byte-requires-2 (calls t) (number-at t) number.Post
 number-put-byte-requires-2 t c κs = search needs
 
-number-same-length-2 : (t : ℕ) → number-lts.Need-same-length-2 (
-  put-byte-reads.Asked,
-  put-byte-reads.Learnt,
-  number-below t,
-  number.Post,
-) (number-at t) number.Post
+number-same-length-2 : (t : ℕ) → number-lts.Need-same-length-2 (calls t) (number-at t) number.Post
 number-same-length-2 t c = search needs
 
-number-returns-2 : (t : ℕ) → number-lts.Need-returns-2 (
-  put-byte-reads.Asked,
-  put-byte-reads.Learnt,
-  number-below t,
-  number.Post,
-) (number-at t) number.Post
+number-returns-2 : (t : ℕ) → number-lts.Need-returns-2 (calls t) (number-at t) number.Post
 number-returns-2 t c =
     let k = c .before .before .before .before .before .before .before .before .before .before .args in
     let last = digit (k .n % 10) in
@@ -118,14 +67,7 @@ number-returns-2 t c =
     number-put (k .n) (out (k .text .now) (k .at)) (omega arith) (omega arith)
 
 pub +number-spec : {M : Type 1} → statement M
-+number-spec = close μ-number λ t. number-lts.spec (
-  put-byte-reads.Asked,
-  put-byte-reads.Learnt,
-  number-below t,
-  number.Post,
-)
-    (number-at t)
-    number.Post
++number-spec = close μ-number λ t. number-lts.spec (calls t) (number-at t) number.Post
     (number-cast-put-byte t)
     (number-add-put-byte t)
     (number-put-byte-requires t)
