@@ -2,7 +2,7 @@
 use mathlib.Core.Path.{_≡_, refl, sym, ap, _∙_}
 use mathlib.Core.Bool.{Bool, true, false, cond}
 use mathlib.Core.List.{List, [], _∷_, _++_}
-use Prim.Native.Nat.{ℕ, zero, suc, _*_, _≤_, max}
+use Prim.Native.Nat.{ℕ, zero, suc, _+_, _*_, _≤_, max}
 use native.Mathlib.Omega.{arith}
 use lib.ListN.{length, take, drop, getD, length-append, length-take}
 use Rattle.event.specs.declared.Record.{Record}
@@ -83,14 +83,17 @@ lines-size event (r ∷ rest) (Found f ∷ found) =
     simp length-append (omega (arith, line-size event (r .site) (fieldsOf f), lines-size (suc event) rest found))
 
 -- head, at most 5,460 lines, and foot
-parts-size : (head lines foot : List ℕ) → length head ≤ 41 → length lines ≤ 80 * 5460 → length foot ≤ 15 → length (head ++ lines ++ foot) ≤ 436856
+abbrev pub longest-report : ℕ
+longest-report = 41 + 80 * 5460 + 15
+
+parts-size : (head lines foot : List ℕ) → length head ≤ 41 → length lines ≤ 80 * 5460 → length foot ≤ 15 → length (head ++ lines ++ foot) ≤ longest-report
 parts-size head lines foot h k l = simp length-append (omega arith)
 
-pub report-size : (trace area : List ℕ) → length (reportOf trace area) ≤ 436856
+pub report-size : (trace area : List ℕ) → length (reportOf trace area) ≤ longest-report
 unfolding reportOf
 report-size trace area = go (traceCheck trace area) refl
   where
-    go : (c : TraceCheck) → traceCheck trace area ≡ c → length (reportFor c trace) ≤ 436856
+    go : (c : TraceCheck) → traceCheck trace area ≡ c → length (reportFor c trace) ≤ longest-report
     go Passed e =
         let given = eventsIn trace in
         let found = answersOf trace in
@@ -107,7 +110,7 @@ pub record Whole (trace area d text : List ℕ) (n : ℕ) : Type 0 where
   pub report : take n text ≡ reportOf trace area
   pub beyond : drop n text ≡ drop n d
 
-pub report-whole : (trace area d : List ℕ) {text : List ℕ} {n : ℕ} → 436856 ≤ length d → out text n ≡ put (reportOf trace area) (out d 0) →
+pub report-whole : (trace area d : List ℕ) {text : List ℕ} {n : ℕ} → longest-report ≤ length d → out text n ≡ put (reportOf trace area) (out d 0) →
     Whole trace area d text n
 report-whole trace area d {text} {n} room e =
     let s = reportOf trace area in

@@ -8,7 +8,7 @@ fn main() {
     let mut trace = [0u8; 65537];
     let len = io::read_full(STDIN_FILENO, &mut trace);
     let mut area = [0u8; 65520];
-    let mut text = [0u8; 436856];
+    let mut text = [0u8; listing::LONGEST];
     let n = listing::report(&trace[..len], &mut area, &mut text);
     if !io::write_all(STDOUT_FILENO, &text[..n]) {
         io::write_all(STDERR_FILENO, b"pmjudge: cannot write to standard output\n");

@@ -30,7 +30,7 @@ fn agrees(trace: &[u8], area: &mut [u8], after: &[u8], text: &[u8]) -> bool
     ensures { λ r. ⌜ Tests r (Agrees (now (trace .entry)) (now (area .entry)) (now (after .entry)) (now (text .entry))) ⌝ }
     ensures { λ _. ⌜ now (area .exit) ≡ areaAfter (now (trace .entry)) (now (area .entry)) ⌝ }
 {
-    let mut printed = [0u8; 436856];
+    let mut printed = [0u8; listing::LONGEST];
     let n = listing::report(trace, area, &mut printed);
     let same_area = check::same(area, after);
     let same_text = check::same(&printed[..n], text);
