@@ -1,9 +1,9 @@
 //! The direct way: no crash image is listed.
 //!
-//! Each line keeps the last store of each of its bytes and its closings. A closing is a write-back
-//! of the line and the first fence after it: from that fence on, every piece of the line older
-//! than that write-back survives in every image, and the persist intervals of its bytes are
-//! closed.
+//! Each line keeps the last store of each of its bytes, with its epoch, and its closings. A closing
+//! is a write-back of the line and the first fence after it: from that fence on, every piece of the
+//! line older than that write-back survives in every image, and the persist intervals of its bytes
+//! are closed.
 //!
 //! - A byte may be lost at the present moment if its last store is younger than the write-back of
 //!   the line's latest closing.
@@ -14,6 +14,7 @@
 
 use crate::event::{Event, Range, Record, LINE, MAX_DEPTH, MAX_EVENTS, MAX_WINDOW};
 use crate::finding::{Finding, Kind};
+use crate::interval::Interval;
 use crate::outcome::Totals;
 use crate::Way;
 
@@ -25,12 +26,16 @@ const NEVER: usize = usize::MAX;
 struct Closing {
     write_back: usize,
     fence: usize,
+    /// The epoch that the fence begins.
+    epoch: usize,
 }
 
 #[derive(Clone, Debug)]
 struct Line {
     /// The last store of each byte, 0 for none.
     last: [usize; LINE],
+    /// The epoch of the last store of each byte.
+    opened: [usize; LINE],
     /// The last store of the line, 0 for none.
     newest: usize,
     /// The last write-back of the line, 0 for none.
@@ -43,6 +48,7 @@ impl Line {
     fn new() -> Line {
         Line {
             last: [0; LINE],
+            opened: [0; LINE],
             newest: 0,
             written_back: 0,
             closings: Vec::new(),
@@ -54,12 +60,28 @@ impl Line {
         self.closings.last().map_or(0, |closing| closing.write_back)
     }
 
+    /// The closing that makes the piece of this store durable.
+    fn closing_for(&self, store: usize) -> Option<&Closing> {
+        let older = |closing: &Closing| closing.write_back < store;
+        self.closings.get(self.closings.partition_point(older))
+    }
+
     /// The fence that makes the piece of this store durable.
     fn fence_for(&self, store: usize) -> usize {
-        let at = self
-            .closings
-            .partition_point(|closing| closing.write_back < store);
-        self.closings.get(at).map_or(NEVER, |closing| closing.fence)
+        self.closing_for(store)
+            .map_or(NEVER, |closing| closing.fence)
+    }
+
+    /// The persist interval of a byte, counted from the line's start.
+    fn interval(&self, byte: usize) -> Interval {
+        let (store, opened) = (self.last[byte], self.opened[byte]);
+        if store == 0 {
+            return Interval::None;
+        }
+        match self.closing_for(store) {
+            Some(closing) => Interval::Closed(opened, closing.epoch),
+            None => Interval::Open(opened),
+        }
     }
 
     /// The lowest byte of the part whose last store is younger than the event.
@@ -123,6 +145,10 @@ impl Way for Run {
         }
     }
 
+    fn window(&self) -> usize {
+        self.lines.len() * LINE
+    }
+
     fn give(&mut self, record: &Record) -> Result<Finding, u8> {
         self.refuse(record.event)?;
         self.events += 1;
@@ -140,6 +166,10 @@ impl Way for Run {
             self.found += 1;
         }
         Ok(finding.at(record.site))
+    }
+
+    fn interval(&self, byte: usize) -> Interval {
+        self.lines[byte / LINE].interval(byte % LINE)
     }
 
     fn close(&self) -> Result<Totals, u8> {
@@ -167,9 +197,11 @@ impl Run {
     }
 
     fn store(&mut self, a: Range) -> Finding {
-        for line in a.lines() {
-            self.lines[line].last[part_of(a, line)].fill(self.events);
-            self.lines[line].newest = self.events;
+        for number in a.lines() {
+            let (line, part) = (&mut self.lines[number], part_of(a, number));
+            line.last[part.clone()].fill(self.events);
+            line.opened[part].fill(self.fences);
+            line.newest = self.events;
         }
         self.last_store = self.events;
         if self.depth == 0 {
@@ -200,6 +232,7 @@ impl Run {
             let closing = Closing {
                 write_back: line.written_back,
                 fence: self.events,
+                epoch: self.fences,
             };
             // A line that is pending twice gets one closing.
             if line.durable_before() < closing.write_back {

@@ -103,6 +103,18 @@ impl Event {
             _ => None,
         }
     }
+
+    /// Refusals 8 and 9, in this order, for a window of so many bytes.
+    pub fn check_ranges(self, window: usize) -> Result<(), u8> {
+        let used = [self.range_a(), self.range_b()];
+        if used.iter().flatten().any(|range| range.length == 0) {
+            return Err(8);
+        }
+        if used.iter().flatten().any(|range| range.end() > window) {
+            return Err(9);
+        }
+        Ok(())
+    }
 }
 
 /// An event with the site that the tracer gave it.

@@ -6,6 +6,7 @@
 
 use crate::event::{Event, Range, Record, LINE, MAX_DEPTH, MAX_EVENTS};
 use crate::finding::{Finding, Kind};
+use crate::interval::Interval;
 use crate::outcome::Totals;
 use crate::{trace, Way};
 
@@ -53,6 +54,10 @@ impl Way for History {
         }
     }
 
+    fn window(&self) -> usize {
+        self.lines * LINE
+    }
+
     fn give(&mut self, record: &Record) -> Result<Finding, u8> {
         let number = self.records.len() + 1;
         if number > MAX_EVENTS {
@@ -70,14 +75,24 @@ impl Way for History {
         Ok(finding)
     }
 
+    fn interval(&self, byte: usize) -> Interval {
+        let Some(store) = self.last_store(byte, self.records.len() + 1) else {
+            return Interval::None;
+        };
+        let opened = self.epoch(store);
+        match self.closing_fence(byte / LINE, store) {
+            Some(fence) => Interval::Closed(opened, self.epoch(fence)),
+            None => Interval::Open(opened),
+        }
+    }
+
     fn close(&self) -> Result<Totals, u8> {
         if self.open_before(self.records.len() + 1) > 0 {
             return Err(13);
         }
-        let fences = self.up_to(self.records.len());
         Ok(Totals {
             events: self.records.len(),
-            fences: fences.filter(|&(_, event)| event == Event::Fence).count(),
+            fences: self.epoch(self.records.len()),
             found: self
                 .findings
                 .iter()
@@ -98,6 +113,19 @@ impl History {
     fn between(&self, after: usize, moment: usize) -> impl Iterator<Item = (usize, Event)> + '_ {
         let happened = self.records[after.min(moment)..moment].iter().enumerate();
         happened.map(move |(at, record)| (after + at + 1, record.event))
+    }
+
+    /// The count of fences by event `n`: the epoch of a store, or the epoch that a fence begins.
+    fn epoch(&self, n: usize) -> usize {
+        self.up_to(n).filter(|&(_, e)| e == Event::Fence).count()
+    }
+
+    /// The first fence after the first write-back, after the store, of the line.
+    fn closing_fence(&self, line: usize, store: usize) -> Option<usize> {
+        let mut later = self.between(store, self.records.len());
+        later.find(|&(_, event)| is_write_back_of(event, line))?;
+        let fence = later.find(|&(_, event)| event == Event::Fence);
+        fence.map(|(number, _)| number)
     }
 
     fn finding(&self, n: usize) -> Finding {
@@ -193,7 +221,7 @@ impl History {
             self.between(begin, n - 1)
                 .any(|(_, event)| matches!(event, Event::Store(a) if a.covers(byte)))
         };
-        let bytes: Vec<usize> = (0..self.lines * LINE).filter(|&b| covered(b)).collect();
+        let bytes: Vec<usize> = (0..self.window()).filter(|&b| covered(b)).collect();
         if bytes.is_empty() {
             return Finding::of(Kind::Empty);
         }
@@ -341,8 +369,8 @@ impl History {
                     .saturating_mul(u64::from(a.length))
             }
             Event::End => {
-                let lines = self.lines_concerned(n, 0..self.lines * LINE);
-                let bytes = (self.lines * LINE) as u64;
+                let lines = self.lines_concerned(n, 0..self.window());
+                let bytes = self.window() as u64;
                 self.image_count(&lines, n).saturating_mul(bytes)
             }
             Event::Ordered(a, b) => {

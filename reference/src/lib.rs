@@ -7,7 +7,8 @@
 //!   assertion (module [`images`]);
 //! - [`judge`] goes from event to event with what it knows of each line (module [`direct`]).
 //!
-//! Both read the trace file with the same code (module [`trace`]).
+//! Both read the trace file with the same code (module [`trace`]). Events can also be given singly,
+//! and the persist interval of a byte asked for (module [`singly`]).
 
 pub mod check;
 pub mod corpus;
@@ -15,13 +16,16 @@ pub mod direct;
 pub mod event;
 pub mod finding;
 pub mod images;
+pub mod interval;
 pub mod outcome;
 pub mod random;
 pub mod script;
+pub mod singly;
 pub mod trace;
 
 pub use event::{Event, Range, Record};
 pub use finding::{Finding, Kind};
+pub use interval::Interval;
 pub use outcome::{area_after, findings_bytes, listing, Outcome, Refusal, Report, Totals};
 
 /// A way to judge events one after another, from a fresh window.
@@ -29,8 +33,14 @@ pub trait Way {
     /// A fresh window of 1 to 64 lines.
     fn fresh(lines: u16) -> Self;
 
+    /// The number of bytes in the window.
+    fn window(&self) -> usize;
+
     /// Takes an event whose ranges are good. Refusals 10 to 12; a refused event changes nothing.
     fn give(&mut self, record: &Record) -> Result<Finding, u8>;
+
+    /// The persist interval of a byte of the window.
+    fn interval(&self, byte: usize) -> Interval;
 
     /// Closes the run. Refusal 13.
     fn close(&self) -> Result<Totals, u8>;

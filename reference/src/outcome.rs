@@ -4,7 +4,8 @@ use crate::finding::{Finding, Kind};
 use crate::trace::RECORD;
 use std::fmt::Write;
 
-/// A refusal: its number, and the record's number from 1 (0 for trailer, area and closing).
+/// A refusal: its number, and the record's number from 1 (0 for trailer, area, closing, and the
+/// calls on single events).
 #[derive(Clone, Copy, Debug, PartialEq, Eq, Hash)]
 pub struct Refusal {
     pub number: u8,

@@ -85,14 +85,7 @@ pub fn decode(bytes: &[u8; RECORD], lines: u16) -> Result<Record, u8> {
     if bytes[1] != 0 || a_set_but_lacking || b_set_but_lacking {
         return Err(7);
     }
-    let used = [event.range_a(), event.range_b()];
-    if used.iter().flatten().any(|range| range.length == 0) {
-        return Err(8);
-    }
-    let window = usize::from(lines) * LINE;
-    if used.iter().flatten().any(|range| range.end() > window) {
-        return Err(9);
-    }
+    event.check_ranges(usize::from(lines) * LINE)?;
     Ok(Record { event, site })
 }
 

@@ -1,9 +1,11 @@
-//! The two ways compared on all traces up to a length over an alphabet of events.
+//! The two ways compared on all traces up to a length over an alphabet of events: the outcomes, and
+//! the persist intervals.
 
 use reference::direct::Run;
 use reference::images::History;
-use reference::{findings_with, judge, judge_by_images, script, trace, Event, Kind, Outcome};
-use reference::{Range, Record};
+use reference::{findings_with, judge, judge_by_images, script, trace, Event, Interval, Kind};
+use reference::{Outcome, Range, Record, Way};
+use std::ops::RangeInclusive;
 use std::sync::Mutex;
 
 /// Tests that use threads run one at a time.
@@ -60,12 +62,25 @@ const TRANSACTIONS: [Event; 8] = [
     Event::Fence,
 ];
 
-/// How often each kind of finding and each refusal came up.
+/// The events that persist intervals depend on.
+const INTERVALS: [Event; 7] = [
+    Event::Store(r(60, 8)),
+    Event::Store(r(62, 2)),
+    Event::Store(r(64, 1)),
+    Event::WriteBack(r(60, 8)),
+    Event::WriteBack(r(63, 1)),
+    Event::WriteBack(r(64, 1)),
+    Event::Fence,
+];
+
+/// How often each kind of finding, each refusal and each kind of interval came up.
 #[derive(Clone, Debug, Default)]
 struct Tally {
     traces: usize,
     kinds: [usize; 9],
     refused: [usize; 15],
+    /// None, open, closed.
+    intervals: [usize; 3],
 }
 
 impl Tally {
@@ -81,11 +96,22 @@ impl Tally {
         }
     }
 
+    fn add_interval(&mut self, interval: Interval) {
+        let at = match interval {
+            Interval::None => 0,
+            Interval::Open(_) => 1,
+            Interval::Closed(..) => 2,
+        };
+        self.intervals[at] += 1;
+    }
+
     fn join(&mut self, other: &Tally) {
         self.traces += other.traces;
         let kinds = self.kinds.iter_mut().zip(other.kinds);
         let refused = self.refused.iter_mut().zip(other.refused);
-        kinds.chain(refused).for_each(|(sum, more)| *sum += more);
+        let intervals = self.intervals.iter_mut().zip(other.intervals);
+        let sums = kinds.chain(refused).chain(intervals);
+        sums.for_each(|(sum, more)| *sum += more);
     }
 }
 
@@ -117,11 +143,33 @@ fn compare(records: &[Record]) -> Outcome {
     direct
 }
 
-/// Compares all traces of `front` and then `lengths` events of the alphabet.
-fn compare_all(
+/// Compares the intervals of every byte after the last event. Refused events are passed over.
+fn compare_intervals(records: &[Record], tally: &mut Tally) {
+    let (mut direct, mut history) = (Run::fresh(LINES), History::fresh(LINES));
+    for record in records {
+        assert_eq!(direct.give(record), history.give(record), "{records:?}");
+    }
+    tally.traces += 1;
+    for byte in 0..direct.window() {
+        let interval = direct.interval(byte);
+        assert_eq!(interval, history.interval(byte), "{byte}: {records:?}");
+        tally.add_interval(interval);
+    }
+}
+
+/// Compares the outcomes of all traces of `front` and then `lengths` events of the alphabet.
+fn compare_all(front: &[Event], alphabet: &[Event], lengths: RangeInclusive<usize>) -> Tally {
+    for_all(front, alphabet, lengths, |records, tally| {
+        tally.add(&compare(records));
+    })
+}
+
+/// Calls `each` for all lists of `front` and then `lengths` events of the alphabet.
+fn for_all(
     front: &[Event],
     alphabet: &[Event],
-    lengths: std::ops::RangeInclusive<usize>,
+    lengths: RangeInclusive<usize>,
+    each: impl Fn(&[Record], &mut Tally) + Sync,
 ) -> Tally {
     let _guard = ONE_AT_A_TIME
         .lock()
@@ -132,11 +180,12 @@ fn compare_all(
         let share = |first: usize| {
             let mut tally = Tally::default();
             for number in (first..words).step_by(THREADS) {
-                tally.add(&compare(&word(front, alphabet, length, number)));
+                each(&word(front, alphabet, length, number), &mut tally);
             }
             tally
         };
         std::thread::scope(|scope| {
+            let share = &share;
             let shares: Vec<_> = (0..THREADS)
                 .map(|first| scope.spawn(move || share(first)))
                 .collect();
@@ -184,4 +233,24 @@ fn begin_and_six_events() {
     ];
     assert_found(&tally, &kinds);
     assert!(tally.refused[11] > 0 && tally.refused[13] > 0);
+}
+
+/// A list of each length is compared after its last event, so every list after every event.
+#[test]
+fn intervals_up_to_seven_events() {
+    let tally = for_all(&[], &INTERVALS, 0..=7, compare_intervals);
+    let lists = 1 + 7 + 49 + 343 + 2_401 + 16_807 + 117_649 + 823_543;
+    assert_eq!(tally.traces, lists);
+    assert_eq!(tally.intervals.iter().sum::<usize>(), 128 * lists);
+    assert!(tally.intervals.iter().all(|&count| count > 0));
+}
+
+/// With assertions and transactions among the events, refused ones too.
+#[test]
+fn intervals_of_everything_up_to_four_events() {
+    let tally = for_all(&[], &EVERYTHING, 0..=4, compare_intervals);
+    let lists = 1 + 16 + 256 + 4_096 + 65_536;
+    assert_eq!(tally.traces, lists);
+    assert_eq!(tally.intervals.iter().sum::<usize>(), 128 * lists);
+    assert!(tally.intervals.iter().all(|&count| count > 0));
 }

@@ -3,9 +3,13 @@
 //! Most have windows of 1 to 4 lines, ranges of at most 16 bytes, 6 to 30 events and the ends
 //! behind them; some have any window, any range and up to 39 events. A trace whose images need
 //! more than `images::SMALL_EFFORT` marks is passed over; the tests count those compared.
+//!
+//! Persist intervals are compared for every byte of the window after every event.
 
-use reference::random::{self, Random};
-use reference::{images, judge, judge_by_images, script, Kind, Outcome};
+use reference::direct::Run;
+use reference::images::History;
+use reference::random::{self, Mix, Random, Shape};
+use reference::{images, judge, judge_by_images, script, Interval, Kind, Outcome, Record, Way};
 
 /// Compares the two ways on `count` traces, and gives the outcomes of those small enough.
 fn compare(seed: u64, count: usize, make: fn(&mut Random) -> Vec<u8>) -> Vec<Outcome> {
@@ -89,6 +93,86 @@ fn any_window() {
     for kind in Kind::ALL {
         assert!(count_of(&outcomes, kind) > 100, "few {kind:?}");
     }
+}
+
+/// No transactions and no assertions: no images are enumerated.
+const STORES: Mix = Mix {
+    store: 4,
+    write_back: 3,
+    fence: 2,
+    transaction: 0,
+    persisted: 0,
+    ordered: 0,
+};
+
+/// How many intervals were compared, and how many of them were closed.
+#[derive(Clone, Copy, Debug, Default)]
+struct Intervals {
+    lists: usize,
+    compared: usize,
+    closed: usize,
+}
+
+impl Intervals {
+    /// Compares the intervals of every byte after each event of a list.
+    fn compare(&mut self, lines: u16, records: &[Record]) {
+        let (mut direct, mut history) = (Run::fresh(lines), History::fresh(lines));
+        for record in records {
+            assert_eq!(direct.give(record), history.give(record), "{records:?}");
+            for byte in 0..direct.window() {
+                let interval = direct.interval(byte);
+                assert_eq!(interval, history.interval(byte), "{byte}: {records:?}");
+                self.compared += 1;
+                self.closed += usize::from(matches!(interval, Interval::Closed(..)));
+            }
+        }
+        self.lists += 1;
+    }
+}
+
+/// Compares the intervals of `count` lists, passing over those with too many images.
+fn compare_intervals(seed: u64, count: usize, make: fn(&mut Random) -> Shape) -> Intervals {
+    let mut random = Random::new(seed);
+    let mut intervals = Intervals::default();
+    for _ in 0..count {
+        let shape = make(&mut random);
+        let records = random::events(&mut random, &shape);
+        if images::small_enough_events(shape.lines, &records) {
+            intervals.compare(shape.lines, &records);
+        }
+    }
+    println!("seed {seed}: {count} lists, {intervals:?}");
+    intervals
+}
+
+#[test]
+fn intervals() {
+    let intervals = compare_intervals(5, 4_000, random::small_shape);
+    assert!(intervals.lists > 3_600);
+    assert!(intervals.compared > 10_000_000 && intervals.closed > 50_000);
+}
+
+#[test]
+fn intervals_of_long_lists() {
+    let intervals = compare_intervals(6, 400, |random| Shape {
+        lines: 1 + random.below(3) as u16,
+        events: 120,
+        mix: STORES,
+        longest: random.pick(&[4, 16, 70]),
+        ranges: random.below(12),
+    });
+    assert_eq!(intervals.lists, 400);
+    assert!(intervals.compared > 5_000_000 && intervals.closed > 500_000);
+}
+
+#[test]
+fn intervals_of_any_window() {
+    let intervals = compare_intervals(7, 500, |random| Shape {
+        mix: STORES,
+        ..random::any_shape(random)
+    });
+    assert_eq!(intervals.lists, 500);
+    assert!(intervals.compared > 5_000_000 && intervals.closed > 100_000);
 }
 
 /// The same seed gives the same traces.

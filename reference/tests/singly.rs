@@ -1,0 +1,420 @@
+//! The calls on single events, both ways: answers written by hand, the stored output of a program
+//! that prints each call with its answer, and random events.
+
+use reference::direct::Run;
+use reference::images::{self, History};
+use reference::random::{self, Random, Shape};
+use reference::{singly, Event, Finding, Interval, Kind, Range, Record, Refusal, Totals, Way};
+use std::path::Path;
+
+/// The stored output, from the package's folder.
+const STORED: &str = "../crates/engine_runs/stdout";
+/// How many of its lines hold an answer.
+const STORED_ANSWERS: usize = 100;
+/// The run, and the line of it, before which the program gives fences that it does not print.
+const FENCES_BEFORE: (&str, &str) = ("65535 events", "store 0/8");
+const FENCES: usize = 65_533;
+
+/// The site of the events given here.
+const SITE: u16 = 7;
+
+// Text: a line `run: NAME`, then a line `CALL: ANSWER` for each call, a fresh window first.
+
+struct Printed<'a> {
+    name: &'a str,
+    /// Calls and answers.
+    lines: Vec<(&'a str, &'a str)>,
+}
+
+fn runs(text: &str) -> Vec<Printed<'_>> {
+    let mut runs: Vec<Printed> = Vec::new();
+    for line in text.lines() {
+        let (call, answer) = line.split_once(": ").expect("a call and its answer");
+        if call == "run" {
+            runs.push(Printed {
+                name: answer,
+                lines: Vec::new(),
+            });
+        } else {
+            let run = runs.last_mut().expect("a run has a name");
+            run.lines.push((call, answer));
+        }
+    }
+    runs
+}
+
+fn number<T: std::str::FromStr>(text: &str) -> T {
+    text.parse().ok().expect("a number that fits")
+}
+
+fn range(text: &str) -> Range {
+    let (address, length) = text.split_once('/').expect("an address and a length");
+    Range::new(number(address), number(length))
+}
+
+fn event(words: &[&str]) -> Event {
+    match words {
+        ["store", a] => Event::Store(range(a)),
+        ["write-back", a] => Event::WriteBack(range(a)),
+        ["fence"] => Event::Fence,
+        ["begin"] => Event::Begin,
+        ["log", a] => Event::Log(range(a)),
+        ["end"] => Event::End,
+        ["persisted", a] => Event::Persisted(range(a)),
+        ["ordered", a, "before", b] => Event::Ordered(range(a), range(b)),
+        _ => panic!("not a call: {words:?}"),
+    }
+}
+
+/// The words of an answer, or of the refusal in its place.
+fn answer<T>(result: Result<T, Refusal>, words: impl Fn(T) -> String) -> String {
+    match result {
+        Ok(value) => words(value),
+        Err(refusal) => {
+            assert_eq!(refusal.record, 0);
+            format!("refused {}", refusal.number)
+        }
+    }
+}
+
+fn finding_words(finding: Finding) -> String {
+    assert_eq!(finding.site, SITE);
+    if finding == Finding::of(Kind::None).at(SITE) {
+        return "none".to_string();
+    }
+    format!(
+        "finding {} lost {} kept {} moment {} store {}",
+        finding.kind.number(),
+        finding.lost,
+        finding.kept,
+        finding.moment,
+        finding.store
+    )
+}
+
+fn interval_words(interval: Interval) -> String {
+    match interval {
+        Interval::None => "none".to_string(),
+        Interval::Open(since) => format!("open since {since}"),
+        Interval::Closed(from, to) => format!("closed {from} to {to}"),
+    }
+}
+
+fn totals_words(totals: Totals) -> String {
+    let Totals {
+        events,
+        fences,
+        found,
+    } = totals;
+    format!("events {events} fences {fences} findings {found}")
+}
+
+fn give<W: Way>(run: &mut W, event: Event) -> Result<Finding, Refusal> {
+    singly::give(run, &Record { event, site: SITE })
+}
+
+/// Makes the call and gives the words of its answer.
+fn call<W: Way>(run: &mut W, words: &[&str]) -> String {
+    match words {
+        ["ask", byte] => answer(singly::ask(run, number(byte)), interval_words),
+        ["close"] => answer(singly::close(run), totals_words),
+        _ => answer(give(run, event(words)), finding_words),
+    }
+}
+
+/// Makes the calls of a run, compares each answer, and gives the number of those compared.
+fn replay<W: Way>(printed: &Printed) -> usize {
+    let name = printed.name;
+    let mut lines = printed.lines.iter();
+    let (line, expected) = lines.next().expect("a run has a window");
+    let window = line.strip_prefix("fresh ").expect("a window comes first");
+    let (mut run, taken) = singly::fresh::<W>(number(window));
+    let taken = answer(taken, |()| "taken".to_string());
+    assert_eq!(taken, *expected, "{name}: {line}");
+    for &(line, expected) in lines {
+        if (name, line) == FENCES_BEFORE {
+            for _ in 0..FENCES {
+                assert_eq!(call(&mut run, &["fence"]), "none");
+            }
+        }
+        let words: Vec<&str> = line.split(' ').collect();
+        assert_eq!(call(&mut run, &words), expected, "{name}: {line}");
+    }
+    printed.lines.len()
+}
+
+/// Compares every answer of a text both ways, and gives the number of answers.
+fn compare(text: &str) -> usize {
+    let counts = runs(text).into_iter().map(|run| {
+        let compared = replay::<Run>(&run);
+        assert_eq!(replay::<History>(&run), compared);
+        compared
+    });
+    counts.sum()
+}
+
+#[test]
+fn stored_output() {
+    let path = Path::new(env!("CARGO_MANIFEST_DIR")).join(STORED);
+    if !path.exists() {
+        println!("no stored output: nothing is compared");
+        return;
+    }
+    let text = std::fs::read_to_string(path).expect("the stored output is readable");
+    assert_eq!(compare(&text), STORED_ANSWERS);
+}
+
+#[test]
+fn intervals() {
+    let text = "\
+run: never stored
+fresh 2: taken
+ask 0: none
+ask 127: none
+write-back 0/128: finding 5 lost 0 kept 0 moment 0 store 0
+fence: none
+ask 0: none
+store 8/8: none
+ask 7: none
+ask 8: open since 1
+ask 15: open since 1
+ask 16: none
+run: stored twice around a write-back and a fence
+fresh 2: taken
+store 0/8: none
+ask 0: open since 0
+write-back 0/1: none
+ask 0: open since 0
+fence: none
+ask 0: closed 0 to 1
+store 4/8: none
+ask 3: closed 0 to 1
+ask 4: open since 1
+ask 8: open since 1
+fence: none
+fence: none
+ask 4: open since 1
+write-back 63/1: none
+ask 4: open since 1
+fence: none
+ask 3: closed 0 to 1
+ask 4: closed 1 to 4
+run: stored again between the write-back and the fence
+fresh 2: taken
+store 0/8: none
+write-back 0/8: none
+store 4/4: none
+fence: none
+ask 0: closed 0 to 1
+ask 4: open since 0
+write-back 0/8: none
+fence: none
+ask 0: closed 0 to 1
+ask 4: closed 0 to 2
+run: a write-back before the store
+fresh 2: taken
+write-back 0/8: finding 5 lost 0 kept 0 moment 0 store 0
+store 0/8: none
+fence: none
+ask 0: open since 0
+fence: none
+ask 0: open since 0
+run: two write-backs and two fences
+fresh 2: taken
+fence: none
+store 0/8: none
+write-back 0/8: none
+write-back 0/8: finding 6 lost 0 kept 0 moment 0 store 0
+fence: none
+ask 0: closed 1 to 2
+write-back 0/8: finding 6 lost 0 kept 0 moment 0 store 0
+fence: none
+ask 0: closed 1 to 2
+run: two write-backs, and a store between them
+fresh 2: taken
+store 0/8: none
+write-back 0/8: none
+store 8/8: none
+write-back 0/8: none
+fence: none
+ask 0: closed 0 to 1
+ask 8: closed 0 to 1
+run: a store across two lines
+fresh 2: taken
+store 60/8: none
+write-back 60/1: none
+fence: none
+ask 63: closed 0 to 1
+ask 64: open since 0
+fence: none
+write-back 64/1: none
+fence: none
+ask 60: closed 0 to 1
+ask 63: closed 0 to 1
+ask 64: closed 0 to 3
+ask 67: closed 0 to 3
+ask 68: none
+run: a write-back of the other line
+fresh 2: taken
+store 0/8: none
+write-back 64/64: finding 5 lost 64 kept 0 moment 0 store 0
+fence: none
+ask 0: open since 0
+";
+    assert_eq!(compare(text), 85);
+}
+
+#[test]
+fn calls() {
+    let text = "\
+run: a closed run goes on
+fresh 2: taken
+close: events 0 fences 0 findings 0
+begin: none
+close: refused 13
+store 0/8: finding 4 lost 0 kept 0 moment 0 store 0
+close: refused 13
+end: finding 2 lost 0 kept 0 moment 3 store 2
+close: events 3 fences 0 findings 2
+fence: none
+close: events 4 fences 1 findings 2
+run: a refused window has one line
+fresh 0: refused 4
+ask 63: none
+ask 64: refused 9
+persisted 0/64: finding 1 lost 0 kept 0 moment 0 store 0
+persisted 0/65: refused 9
+close: events 1 fences 0 findings 1
+run: lengths before ranges, ranges before the state
+fresh 1: taken
+log 64/0: refused 8
+log 64/1: refused 9
+log 63/1: refused 11
+ordered 64/1 before 0/0: refused 8
+ordered 0/0 before 64/1: refused 8
+ordered 64/1 before 0/1: refused 9
+ordered 0/1 before 64/1: refused 9
+ordered 0/1 before 1/65535: refused 9
+write-back 65535/65535: refused 9
+ask 65535: refused 9
+ask 65536: refused 9
+close: events 0 fences 0 findings 0
+";
+    assert_eq!(compare(text), 29);
+}
+
+#[test]
+fn line_counts() {
+    for lines in 0..=u16::MAX {
+        let (run, taken) = singly::fresh::<History>(lines);
+        let refused = taken.err().map(|refusal| refusal.number);
+        let expected = match lines {
+            1..=64 => (64 * usize::from(lines), None),
+            _ => (64, Some(4)),
+        };
+        assert_eq!((run.window(), refused), expected, "{lines}");
+    }
+}
+
+/// A list with events that may be refused among the others.
+fn any_events(random: &mut Random, shape: &Shape) -> Vec<Event> {
+    let mut events = Vec::new();
+    for record in random::events(random, shape) {
+        while random.chance(2, 5) {
+            events.push(edge_event(random));
+        }
+        events.push(record.event);
+    }
+    events
+}
+
+/// An event with addresses and lengths at the edges of lines and windows.
+fn edge_event(random: &mut Random) -> Event {
+    let edges = [0, 1, 2, 63, 64, 65, 127, 128, 4_095, 4_096, u16::MAX];
+    let mut range = || Range::new(random.pick(&edges), random.pick(&edges));
+    let (a, b) = (range(), range());
+    let kinds = [
+        Event::Store(a),
+        Event::WriteBack(a),
+        Event::Begin,
+        Event::Begin,
+        Event::Begin,
+        Event::Log(a),
+        Event::End,
+        Event::Persisted(a),
+        Event::Ordered(a, b),
+    ];
+    random.pick(&kinds)
+}
+
+/// The answers of the calls that change nothing: the closing, and each byte asked.
+type Answers = (Result<Totals, Refusal>, Vec<Result<Interval, Refusal>>);
+
+fn answers<W: Way>(run: &W) -> Answers {
+    let bytes = 0..run.window() + 2;
+    let intervals = bytes.map(|byte| singly::ask(run, byte));
+    (singly::close(run), intervals.collect())
+}
+
+/// Gives the events to a fresh run. A refused one must not change any answer.
+fn give_all<W: Way>(lines: u16, events: &[Event]) -> (Answers, Vec<Result<Finding, Refusal>>) {
+    let (mut run, _) = singly::fresh::<W>(lines);
+    let mut given = Vec::new();
+    for &event in events {
+        let before = answers(&run);
+        let result = give(&mut run, event);
+        assert!(
+            result.is_ok() || answers(&run) == before,
+            "{event:?}: {events:?}"
+        );
+        given.push(result);
+    }
+    (answers(&run), given)
+}
+
+/// Random events, refused ones among them: both ways, and the accepted ones alone.
+#[test]
+fn random_events() {
+    let mut random = Random::new(9);
+    let (mut lists, mut refused) = (0, [0; 15]);
+    for _ in 0..2_000 {
+        let shape = random::small_shape(&mut random);
+        let events = any_events(&mut random, &shape);
+        let (last, given) = give_all::<Run>(shape.lines, &events);
+        let (accepted, findings) = accepted(&events, &given);
+        let alone = give_all::<Run>(shape.lines, &accepted);
+        assert_eq!(alone, (last.clone(), findings), "{events:?}");
+        for refusal in given.iter().filter_map(|result| result.err()) {
+            refused[usize::from(refusal.number)] += 1;
+        }
+        if small_enough(shape.lines, &accepted) {
+            let enumerated = give_all::<History>(shape.lines, &events);
+            assert_eq!(enumerated, (last, given), "{events:?}");
+            lists += 1;
+        }
+    }
+    println!("{lists} lists compared both ways, refused {refused:?}");
+    assert!(lists > 1_900, "{lists}");
+    for number in [8, 9, 11, 12] {
+        assert!(
+            refused[number] > 50,
+            "refused by {number}: {}",
+            refused[number]
+        );
+    }
+}
+
+/// The accepted events and their findings.
+fn accepted(
+    events: &[Event],
+    given: &[Result<Finding, Refusal>],
+) -> (Vec<Event>, Vec<Result<Finding, Refusal>>) {
+    let pairs = events.iter().zip(given);
+    pairs.filter(|(_, result)| result.is_ok()).unzip()
+}
+
+fn small_enough(lines: u16, events: &[Event]) -> bool {
+    let with_site = |&event| Record { event, site: SITE };
+    let records: Vec<Record> = events.iter().map(with_site).collect();
+    images::small_enough_events(lines, &records)
+}
