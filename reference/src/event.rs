@@ -1,5 +1,7 @@
 //! The window, ranges of bytes, and the eight kinds of event.
 
+use std::fmt;
+
 /// Bytes in a line.
 pub const LINE: usize = 64;
 /// The largest number of lines in a window.
@@ -47,6 +49,13 @@ impl Range {
 
     pub fn touches(self, line: usize) -> bool {
         self.lines().contains(&line)
+    }
+}
+
+/// Address/length.
+impl fmt::Display for Range {
+    fn fmt(&self, f: &mut fmt::Formatter<'_>) -> fmt::Result {
+        write!(f, "{}/{}", self.address, self.length)
     }
 }
 
@@ -114,6 +123,22 @@ impl Event {
             return Err(9);
         }
         Ok(())
+    }
+}
+
+/// The event's name and its ranges.
+impl fmt::Display for Event {
+    fn fmt(&self, f: &mut fmt::Formatter<'_>) -> fmt::Result {
+        match self {
+            Event::Store(a) => write!(f, "store {a}"),
+            Event::WriteBack(a) => write!(f, "write-back {a}"),
+            Event::Fence => write!(f, "fence"),
+            Event::Begin => write!(f, "begin"),
+            Event::Log(a) => write!(f, "log {a}"),
+            Event::End => write!(f, "end"),
+            Event::Persisted(a) => write!(f, "persisted {a}"),
+            Event::Ordered(a, b) => write!(f, "ordered {a} before {b}"),
+        }
     }
 }
 

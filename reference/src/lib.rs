@@ -8,8 +8,10 @@
 //! - [`judge`] goes from event to event with what it knows of each line (module [`direct`]).
 //!
 //! Both read the trace file with the same code (module [`trace`]). Events can also be given singly,
-//! and the persist interval of a byte asked for (module [`singly`]).
+//! and the persist interval of a byte asked for (module [`singly`]); module [`calls`] makes a file of
+//! such calls and the text of their answers.
 
+pub mod calls;
 pub mod check;
 pub mod corpus;
 pub mod direct;

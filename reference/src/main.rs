@@ -1,5 +1,6 @@
 //! The command `reference`.
 
+use reference::calls::Calls;
 use reference::script::Script;
 use reference::trace::{MAX_TRACE, RECORD};
 use reference::{check, corpus, images, judge, judge_by_images, listing, Outcome};
@@ -17,6 +18,7 @@ usage:
   reference check SCRIPT...          judge each script's trace both ways, and compare it with the
                                      script's `expect` and `refused` lines
   reference corpus CORPUS SUMMARY    write the corpus and its summary
+  reference calls CALLS ANSWERS      write calls on single events, and the text of their answers
   reference --help                   print this text
 
 SCRIPT and the TRACE of `judge` may be `-` for standard input.
@@ -57,8 +59,9 @@ fn run(words: &[&str]) -> Result<ExitCode, Failure> {
         ["judge", trace] if *trace != "--images" => judge_command(trace, false),
         ["check", scripts @ ..] if !scripts.is_empty() => check_command(scripts),
         ["corpus", corpus, summary] => corpus_command(corpus, summary),
+        ["calls", calls, answers] => calls_command(calls, answers),
         [] => Err("reference: a command is missing; see `reference --help`".to_string()),
-        ["write" | "judge" | "check" | "corpus", ..] => Err(format!(
+        ["write" | "judge" | "check" | "corpus" | "calls", ..] => Err(format!(
             "reference {}: wrong arguments; see `reference --help`",
             words[0]
         )),
@@ -123,6 +126,15 @@ fn corpus_command(corpus_name: &str, summary_name: &str) -> Result<ExitCode, Fai
     let corpus = corpus::Corpus::build(&corpus::papers_folder(), &mut |line| eprintln!("{line}"))?;
     write_file(corpus_name, &corpus.to_bytes())?;
     write_file(summary_name, corpus.summary().as_bytes())
+}
+
+fn calls_command(calls_name: &str, answers_name: &str) -> Result<ExitCode, Failure> {
+    let calls = Calls::build()?;
+    for line in calls.note() {
+        eprintln!("{line}");
+    }
+    write_file(calls_name, &calls.to_bytes())?;
+    write_file(answers_name, calls.text().as_bytes())
 }
 
 fn read_script(name: &str) -> Result<Script, Failure> {

@@ -228,9 +228,7 @@ impl Reader {
         let record = if words[0] == "record" {
             record_bytes(&words[1..])?
         } else {
-            let (words, site) = split_site(at, words)?;
-            let event = event_of(words)?;
-            trace::encode(&Record { event, site })
+            trace::encode(&event_at(at, words)?)
         };
         self.script.events.push(Scripted {
             at,
@@ -239,6 +237,13 @@ impl Reader {
         });
         Ok(())
     }
+}
+
+/// The event of a line's words, with its site.
+pub(crate) fn event_at(at: usize, words: &[&str]) -> Result<Record, String> {
+    let (words, site) = split_site(at, words)?;
+    let event = event_of(words)?;
+    Ok(Record { event, site })
 }
 
 /// Parts `site N` from the end of an event's words. The site is the line's number otherwise.
@@ -288,7 +293,7 @@ fn range(word: &str) -> Result<Range, String> {
     Ok(Range::new(number(address)?, number(length)?))
 }
 
-fn number(word: &str) -> Result<u16, String> {
+pub(crate) fn number(word: &str) -> Result<u16, String> {
     let digits = !word.is_empty() && word.bytes().all(|byte| byte.is_ascii_digit());
     let value = if digits { word.parse().ok() } else { None };
     value.ok_or_else(|| format!("`{word}` is not a number from 0 to 65535"))
@@ -319,30 +324,9 @@ fn record_words(bytes: &[u8; RECORD]) -> String {
 }
 
 fn event_words(bytes: &[u8; RECORD]) -> Option<String> {
-    let field = |at: usize| u16::from_le_bytes([bytes[at], bytes[at + 1]]);
-    let a = Range::new(field(2), field(4));
-    let b = Range::new(field(6), field(8));
-    let site = field(10);
-    let (event, words) = match bytes[0] {
-        Event::STORE => (Event::Store(a), format!("store {}", slash(a))),
-        Event::WRITE_BACK => (Event::WriteBack(a), format!("write-back {}", slash(a))),
-        Event::FENCE => (Event::Fence, "fence".to_string()),
-        Event::BEGIN => (Event::Begin, "begin".to_string()),
-        Event::LOG => (Event::Log(a), format!("log {}", slash(a))),
-        Event::END => (Event::End, "end".to_string()),
-        Event::PERSISTED => (Event::Persisted(a), format!("persisted {}", slash(a))),
-        Event::ORDERED => {
-            let words = format!("ordered {} before {}", slash(a), slash(b));
-            (Event::Ordered(a, b), words)
-        }
-        _ => return None,
-    };
     // Zero bytes and lacking fields that are set have no words.
-    (trace::encode(&Record { event, site }) == *bytes).then(|| format!("{words} site {site}"))
-}
-
-fn slash(range: Range) -> String {
-    format!("{}/{}", range.address, range.length)
+    let record = trace::read(bytes).ok()?;
+    Some(format!("{} site {}", record.event, record.site))
 }
 
 fn expect_words(expect: &Expect) -> String {

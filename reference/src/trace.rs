@@ -64,6 +64,13 @@ pub fn open(trace: &[u8]) -> Result<Body<'_>, u8> {
 
 /// Reads a record. Refusals 6 to 9, in this order.
 pub fn decode(bytes: &[u8; RECORD], lines: u16) -> Result<Record, u8> {
+    let record = read(bytes)?;
+    record.event.check_ranges(usize::from(lines) * LINE)?;
+    Ok(record)
+}
+
+/// Reads a record whose ranges may be bad. Refusals 6 and 7, in this order.
+pub fn read(bytes: &[u8; RECORD]) -> Result<Record, u8> {
     let kind = bytes[0];
     let a = Range::new(u16_at(bytes, 2), u16_at(bytes, 4));
     let b = Range::new(u16_at(bytes, 6), u16_at(bytes, 8));
@@ -85,7 +92,6 @@ pub fn decode(bytes: &[u8; RECORD], lines: u16) -> Result<Record, u8> {
     if bytes[1] != 0 || a_set_but_lacking || b_set_but_lacking {
         return Err(7);
     }
-    event.check_ranges(usize::from(lines) * LINE)?;
     Ok(Record { event, site })
 }
 

@@ -121,10 +121,25 @@ fn corpus() {
 }
 
 #[test]
+fn calls() {
+    let folder = folder("calls");
+    let path = |name: &str| folder.join(name).to_str().expect("text").to_string();
+    let (calls, answers) = (path("stdin"), path("stdout"));
+    let output = run(&["calls", &calls, &answers], b"");
+    assert_eq!(output.status.code(), Some(0));
+    assert!(text(&output.stderr).contains("answered both ways"));
+    assert!(output.stdout.is_empty());
+    let calls = std::fs::read(calls).expect("written");
+    assert_eq!((calls.len() % 12, calls[0]), (0, 16));
+    let answers = std::fs::read_to_string(answers).expect("written");
+    assert!(answers.starts_with("fresh 2: taken\nstore 120/8: none\n"));
+}
+
+#[test]
 fn help() {
     let output = run(&["--help"], b"");
     assert_eq!(output.status.code(), Some(0));
-    for word in ["write", "judge", "check", "corpus", "--images"] {
+    for word in ["write", "judge", "check", "corpus", "calls", "--images"] {
         assert!(text(&output.stdout).contains(word), "{word}");
     }
 }
@@ -143,6 +158,8 @@ fn bad_usage() {
         &["check"],
         &["corpus", "a"],
         &["corpus", "a", "b", "c"],
+        &["calls", "a"],
+        &["calls", "a", "b", "c"],
     ] {
         fails(args, b"", "wrong arguments");
     }

@@ -1,19 +1,15 @@
-//! The calls on single events, both ways: answers written by hand, the stored output of a program
-//! that prints each call with its answer, and random events.
+//! The calls on single events, both ways: answers written by hand, the calls file with the text of
+//! its answers, and random events.
 
+use reference::calls::{self, Answer, Call, Calls, Counts, Sort};
 use reference::direct::Run;
 use reference::images::{self, History};
 use reference::random::{self, Random, Shape};
 use reference::{singly, Event, Finding, Interval, Kind, Range, Record, Refusal, Totals, Way};
 use std::path::Path;
 
-/// The stored output, from the package's folder.
-const STORED: &str = "../crates/engine_runs/stdout";
-/// How many of its lines hold an answer.
-const STORED_ANSWERS: usize = 100;
-/// The run, and the line of it, before which the program gives fences that it does not print.
-const FENCES_BEFORE: (&str, &str) = ("65535 events", "store 0/8");
-const FENCES: usize = 65_533;
+/// The answers to the runs at the limits, under a line `run: NAME` for each run.
+const LIMITS: &str = include_str!("data/limits.txt");
 
 /// The site of the events given here.
 const SITE: u16 = 7;
@@ -132,11 +128,6 @@ fn replay<W: Way>(printed: &Printed) -> usize {
     let taken = answer(taken, |()| "taken".to_string());
     assert_eq!(taken, *expected, "{name}: {line}");
     for &(line, expected) in lines {
-        if (name, line) == FENCES_BEFORE {
-            for _ in 0..FENCES {
-                assert_eq!(call(&mut run, &["fence"]), "none");
-            }
-        }
         let words: Vec<&str> = line.split(' ').collect();
         assert_eq!(call(&mut run, &words), expected, "{name}: {line}");
     }
@@ -153,20 +144,8 @@ fn compare(text: &str) -> usize {
     counts.sum()
 }
 
-#[test]
-fn stored_output() {
-    let path = Path::new(env!("CARGO_MANIFEST_DIR")).join(STORED);
-    if !path.exists() {
-        println!("no stored output: nothing is compared");
-        return;
-    }
-    let text = std::fs::read_to_string(path).expect("the stored output is readable");
-    assert_eq!(compare(&text), STORED_ANSWERS);
-}
-
-#[test]
-fn intervals() {
-    let text = "\
+/// Persist intervals.
+const INTERVALS: &str = "\
 run: never stored
 fresh 2: taken
 ask 0: none
@@ -261,7 +240,10 @@ write-back 64/64: finding 5 lost 64 kept 0 moment 0 store 0
 fence: none
 ask 0: open since 0
 ";
-    assert_eq!(compare(text), 85);
+
+#[test]
+fn intervals() {
+    assert_eq!(compare(INTERVALS), 85);
 }
 
 #[test]
@@ -417,4 +399,202 @@ fn small_enough(lines: u16, events: &[Event]) -> bool {
     let with_site = |&event| Record { event, site: SITE };
     let records: Vec<Record> = events.iter().map(with_site).collect();
     images::small_enough_events(lines, &records)
+}
+
+// The calls file and the text of its answers.
+
+fn build() -> Calls {
+    Calls::build().expect("the two ways agree")
+}
+
+#[test]
+fn stored_calls_are_the_same() {
+    let stored = Path::new(env!("CARGO_MANIFEST_DIR")).join("../crates/engine_runs");
+    let (stdin, stdout) = (stored.join("stdin"), stored.join("stdout"));
+    if !stdin.exists() && !stdout.exists() {
+        println!("no stored calls: nothing is compared");
+        return;
+    }
+    let calls = build();
+    let stored = std::fs::read(stdin).expect("the stored calls are readable");
+    assert!(stored == calls.to_bytes(), "the stored calls differ");
+    let stored = std::fs::read(stdout).expect("the stored answers are readable");
+    assert!(
+        stored == calls.text().into_bytes(),
+        "the stored answers differ"
+    );
+}
+
+#[test]
+fn calls_are_the_same_each_time() {
+    let (one, other) = (build(), build());
+    assert_eq!(one.to_bytes(), other.to_bytes());
+    assert_eq!(one.text(), other.text());
+}
+
+#[test]
+fn calls_read_back() {
+    let made = build();
+    let bytes = made.to_bytes();
+    let calls: Vec<Call> = made.calls().collect();
+    assert_eq!(calls::read(&bytes), Some(calls.clone()));
+    assert_eq!(calls::read(&bytes[..bytes.len() - 1]), None);
+    // Every answer from the file alone is the one in the text, in the same order.
+    let answers = calls::answers::<Run>(&calls);
+    let printed = calls.iter().zip(answers);
+    let lines = printed.filter_map(|(call, answer)| Some(format!("{call}: {}", answer?)));
+    assert!(lines.eq(made.text().lines()));
+}
+
+/// Every call has one kind, and no field that it lacks is set.
+#[test]
+fn bytes_of_calls() {
+    let of = |event| Call::Give(Record { event, site: 513 });
+    let (a, b) = (Range::new(258, 3), Range::new(4, 1_029));
+    let written = [
+        (of(Event::Store(a)), [1, 0, 2, 1, 3, 0, 0, 0, 0, 0, 1, 2]),
+        (of(Event::Fence), [3, 0, 0, 0, 0, 0, 0, 0, 0, 0, 1, 2]),
+        (
+            of(Event::Ordered(a, b)),
+            [8, 0, 2, 1, 3, 0, 4, 0, 5, 4, 1, 2],
+        ),
+        (Call::Fresh(258), [16, 0, 2, 1, 0, 0, 0, 0, 0, 0, 0, 0]),
+        (Call::Ask(65_534), [17, 0, 254, 255, 0, 0, 0, 0, 0, 0, 0, 0]),
+        (Call::Close, [18, 0, 0, 0, 0, 0, 0, 0, 0, 0, 0, 0]),
+        (
+            Call::Fences(30_000),
+            [19, 0, 48, 117, 0, 0, 0, 0, 0, 0, 0, 0],
+        ),
+    ];
+    for (call, bytes) in written {
+        assert_eq!(call.to_bytes(), bytes);
+        assert_eq!(Call::from_bytes(&bytes), Some(call));
+    }
+    for kind in (0..=255).filter(|kind| !matches!(kind, 1..=8 | 16..=19)) {
+        let mut bytes = [0; 12];
+        bytes[0] = kind;
+        assert_eq!(Call::from_bytes(&bytes), None, "kind {kind}");
+    }
+    for kind in 16..=19 {
+        for at in 1..12 {
+            let mut bytes = [0; 12];
+            (bytes[0], bytes[at]) = (kind, 1);
+            let lacking = !(2..4).contains(&at) || kind == 18;
+            assert_eq!(Call::from_bytes(&bytes).is_none(), lacking, "{bytes:?}");
+        }
+    }
+}
+
+#[test]
+fn calls_cover_every_answer() {
+    let made = build();
+    let counts = Counts::of(&made);
+    let some = |sort: Sort, least: usize| {
+        let count = counts.sort(sort);
+        assert!(count >= least, "{sort:?}: {count}");
+    };
+    for number in [4, 8, 9, 10, 11, 12, 13] {
+        some(Sort::Refused(number), 10);
+    }
+    for kind in Kind::ALL {
+        some(Sort::Finding(kind.number()), 30);
+    }
+    for sort in [Sort::NoInterval, Sort::Open, Sort::Closed, Sort::OpenAgain] {
+        some(sort, 100);
+    }
+    let both = made.entries.iter().filter(|entry| entry.both_ways).count();
+    assert!(both >= 150, "{both} runs both ways");
+}
+
+#[test]
+fn calls_stay_in_their_bounds() {
+    let made = build();
+    let count = made.calls().count();
+    assert!((5_000..=12_000).contains(&count), "{count}");
+    assert!(made.to_bytes().len() <= 150_000);
+    assert!(made.text().len() <= 350_000);
+    for entry in &made.entries {
+        let (first, others) = entry.case.calls.split_first().expect("a run has calls");
+        assert!(matches!(first, Call::Fresh(_)));
+        assert!(!others.iter().any(|call| matches!(call, Call::Fresh(_))));
+    }
+}
+
+/// The lines of a text but those that name a run.
+fn answers_of(text: &str) -> Vec<&str> {
+    let lines = text.lines();
+    lines.filter(|line| !line.starts_with("run: ")).collect()
+}
+
+/// The lines of a group of runs, from the given way.
+fn group_lines<W: Way>(made: &Calls, group: &str) -> Vec<String> {
+    let entries = made
+        .entries
+        .iter()
+        .filter(|entry| entry.case.group == group);
+    let lines = entries.flat_map(|entry| {
+        let calls = &entry.case.calls;
+        let answers: Vec<Option<Answer>> = calls::answers::<W>(calls);
+        let printed = calls.iter().zip(answers);
+        printed.filter_map(|(call, answer)| Some(format!("{call}: {}", answer?)))
+    });
+    lines.collect()
+}
+
+#[test]
+fn runs_written_by_hand() {
+    let made = build();
+    for (group, text, count) in [("limits", LIMITS, 100), ("intervals", INTERVALS, 85)] {
+        let expected = answers_of(text);
+        assert_eq!(expected.len(), count);
+        assert_eq!(group_lines::<Run>(&made, group), expected);
+        assert_eq!(group_lines::<History>(&made, group), expected);
+    }
+}
+
+/// The findings of the request's small runs and of its whole run, as the request has them.
+const SMALL: [&str; 15] = [
+    "persisted 0/128: finding 1 lost 0 kept 0 moment 0 store 0",
+    "persisted 0/8: finding 2 lost 0 kept 0 moment 2 store 1",
+    "persisted 0/8: finding 2 lost 0 kept 0 moment 3 store 1",
+    "persisted 0/8: finding 1 lost 0 kept 0 moment 0 store 0",
+    "write-back 0/8: finding 5 lost 0 kept 0 moment 0 store 0
+persisted 0/8: finding 2 lost 0 kept 0 moment 4 store 2",
+    "persisted 0/8: finding 2 lost 0 kept 0 moment 5 store 3",
+    "ordered 0/8 before 8/8: finding 1 lost 0 kept 0 moment 0 store 0",
+    "ordered 8/8 before 0/8: finding 3 lost 8 kept 0 moment 1 store 2",
+    "ordered 60/4 before 64/4: finding 3 lost 60 kept 64 moment 1 store 1",
+    "ordered 0/8 before 0/8: finding 1 lost 0 kept 0 moment 0 store 0",
+    "store 0/8: finding 4 lost 0 kept 0 moment 0 store 0
+end: finding 2 lost 0 kept 0 moment 3 store 2",
+    "ordered 0/8 before 64/8: finding 3 lost 0 kept 64 moment 2 store 1
+persisted 64/8: finding 2 lost 64 kept 0 moment 6 store 2
+write-back 0/128: finding 6 lost 0 kept 0 moment 0 store 0
+persisted 0/128: finding 1 lost 0 kept 0 moment 0 store 0",
+    "store 121/8: refused 9",
+    "begin: refused 12",
+    "persisted 0/8: refused 10",
+];
+
+/// Every one of them is all that a run of the group has, but for events without a finding.
+#[test]
+fn small_runs() {
+    let made = build();
+    let small = made
+        .entries
+        .iter()
+        .filter(|entry| entry.case.group == "small");
+    let found: Vec<String> = small.map(|entry| found_in(&entry.text())).collect();
+    for expected in SMALL {
+        assert!(found.iter().any(|found| found == expected), "{expected}");
+    }
+}
+
+/// The lines of events with a finding or a refusal.
+fn found_in(text: &str) -> String {
+    let events = text.lines().filter(|line| {
+        let call = line.split([' ', ':']).next();
+        !matches!(call, Some("fresh" | "ask" | "close")) && !line.ends_with(": none")
+    });
+    events.collect::<Vec<_>>().join("\n")
 }

@@ -1,25 +1,34 @@
--- The run after events at site 0.
+-- The run after a call that is read from bytes.
+use mathlib.Core.Bool.{cond}
+use mathlib.Core.List.{List}
 use Prim.Native.Nat.{ℕ, zero, suc}
-use Rattle.event.specs.declared.Range.{Range}
-use Rattle.event.specs.declared.Event.{Event}
+use lib.Dec.{eqb}
+use lib.ListN.{getD}
 use Rattle.event.specs.declared.Event.the-variants.{Fence}
-use Rattle.event.specs.declared.Record.{Record}
+use Rattle.event.specs.declared.Parsed.{Parsed}
+use Rattle.event.specs.declared.Parsed.the-variants.{Record, Refused}
+use Rattle.codec.specs.Codec.{u16At, parsed}
 use Rattle.tables.specs.declared.Run.{Run}
 use Rattle.tables.specs.Give.{giveOf}
+use Rattle.engine.specs.Call.{freshOf}
 
--- `length` bytes from `address` on
-abbrev pub rangeOf : ℕ → ℕ → Range
-rangeOf address length = record { address = address; length = length }
+-- after a record; one that cannot be read changes nothing
+abbrev pub afterRecord : Run → Parsed → Run
+afterRecord run (Record r) = giveOf run r .run
+afterRecord run (Refused x) = run
 
--- the event at site 0
-abbrev pub recordOf : Event → Record
-recordOf e = record { event = e; site = 0 }
-
--- the run after one event
-abbrev pub runAfter : Run → Event → Run
-runAfter run e = giveOf run (recordOf e) .run
-
--- the run after so many fences
+-- after so many fences
 unfoldable pub afterFences : Run → ℕ → Run
 afterFences run zero = run
-afterFences run (suc n) = runAfter (afterFences run n) Fence
+afterFences run (suc n) = giveOf (afterFences run n) (record { event = Fence; site = 0 }) .run
+
+-- after a call, by its kind: 16 is a fresh window, 17 and 18 ask and close, 19 is fences, any other an event given
+abbrev pub afterCall : Run → List ℕ → Run
+afterCall run s =
+    let kind = getD s 0 0 in
+    let number = u16At s 2 in
+    cond (eqb kind 16) (freshOf number .run)
+    (cond (eqb kind 17) run
+    (cond (eqb kind 18) run
+    (cond (eqb kind 19) (afterFences run number)
+    (afterRecord run (parsed s)))))

@@ -1,8 +1,20 @@
-// Runs of the engine whose answers are known, a line for each call.
+// Makes the calls on standard input, which the unrelated checker wrote, and prints an answer line for each: fresh windows, events given
+// singly, bytes asked and closings. A call has 12 bytes.
+use libc::STDIN_FILENO;
+
 mod calls; // the calls of the engine, printed
-mod limits; // runs at the limits of the window and of the state
 mod print; // the line of each call
 
 fn main() {
-    limits::all();
+    let w = engine::fresh(1);
+    let mut run = w.run;
+    let mut bytes = [0u8; 12];
+    let mut left: u32 = 1000000;
+    while 0 < left {
+        if io::read_full(STDIN_FILENO, &mut bytes) < 12 {
+            return;
+        }
+        run = calls::call(run, &bytes);
+        left -= 1;
+    }
 }

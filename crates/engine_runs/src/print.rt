@@ -66,11 +66,10 @@ fn finding(f: Finding) {
     words(b"\n");
 }
 
-// The line before the calls of a run.
-pub fn heading(text: &[u8]) {
-    words(b"run: ");
-    words(text);
-    words(b"\n");
+// A record that cannot be read.
+pub fn unread(x: Refusal) {
+    words(b"record: ");
+    refused(x);
 }
 
 // An event given, and its answer.

@@ -78,7 +78,7 @@ fn tally(answer: Verdict, area: &[u8], answers: &mut [u32], kinds: &mut [u32])
 }
 
 // Judges a trace of the corpus twice, each time into an area whose bytes are all A5h: for its report, and for its answer, which is
-// counted. Whether both are as the corpus says.
+// counted. Answers whether the area and the report are as the corpus says.
 fn run(
     trace: &[u8],
     area: &mut [u8],

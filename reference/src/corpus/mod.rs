@@ -5,7 +5,7 @@
 mod drawn;
 mod layout;
 mod refused;
-mod runs;
+pub(crate) mod runs;
 
 use crate::check::check;
 use crate::finding::Kind;

@@ -6,7 +6,7 @@ use crate::event::LINE;
 use crate::trace;
 
 /// The whole run of the request.
-pub(super) const WHOLE: &str = "store 0/8 site 10; store 64/8 site 11; write-back 0/8 site 12;
+pub(crate) const WHOLE: &str = "store 0/8 site 10; store 64/8 site 11; write-back 0/8 site 12;
     fence site 13; ordered 0/8 before 64/8 site 14; persisted 64/8 site 15;
     write-back 0/128 site 16; fence site 17; persisted 0/128 site 18";
 
@@ -22,7 +22,8 @@ pub(super) fn add(cases: &mut Cases) {
     persisted(cases);
 }
 
-const SMALL: [(&str, &str); 15] = [
+/// The small runs of the request, and some more of that size; two lines.
+pub(crate) const SMALL: [(&str, &str); 15] = [
     ("persisted-fresh", "persisted 0/128"),
     ("stored", "store 0/8; persisted 0/8"),
     ("written-back", "store 0/8; write-back 0/8; persisted 0/8"),

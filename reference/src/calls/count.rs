@@ -1,0 +1,110 @@
+//! How often each sort of answer comes.
+
+use super::{Answer, Call, Calls, Entry};
+use crate::interval::Interval;
+use std::collections::{BTreeMap, BTreeSet};
+use std::fmt;
+
+/// The sort of an answer; the order is that of the note.
+#[derive(Clone, Copy, Debug, PartialEq, Eq, PartialOrd, Ord)]
+pub enum Sort {
+    Taken,
+    /// By the number of the finding's kind.
+    Finding(u8),
+    NoInterval,
+    Open,
+    /// Open, and closed when the byte was asked before.
+    OpenAgain,
+    Closed,
+    Totals,
+    Refused(u8),
+    /// Nothing is printed.
+    Silent,
+}
+
+impl fmt::Display for Sort {
+    fn fmt(&self, f: &mut fmt::Formatter<'_>) -> fmt::Result {
+        match self {
+            Sort::Taken => write!(f, "taken"),
+            Sort::Finding(0) | Sort::NoInterval => write!(f, "none"),
+            Sort::Finding(kind) => write!(f, "finding {kind}"),
+            Sort::Open => write!(f, "open"),
+            Sort::OpenAgain => write!(f, "open again"),
+            Sort::Closed => write!(f, "closed"),
+            Sort::Totals => write!(f, "totals"),
+            Sort::Refused(number) => write!(f, "refused {number}"),
+            Sort::Silent => write!(f, "silent"),
+        }
+    }
+}
+
+/// Counts by the name of the call and the sort of its answer.
+#[derive(Clone, Debug, Default, PartialEq, Eq)]
+pub struct Counts {
+    counts: BTreeMap<(&'static str, Sort), usize>,
+}
+
+impl Counts {
+    pub fn of(calls: &Calls) -> Counts {
+        let mut counts = Counts::default();
+        for entry in &calls.entries {
+            counts.add(entry);
+        }
+        counts
+    }
+
+    fn add(&mut self, entry: &Entry) {
+        let mut closed = BTreeSet::new();
+        for (&call, &answer) in entry.case.calls.iter().zip(&entry.answers) {
+            let sort = match (call, sort(answer)) {
+                (Call::Ask(byte), Sort::Open) if closed.contains(&byte) => Sort::OpenAgain,
+                (Call::Ask(byte), Sort::Closed) => {
+                    closed.insert(byte);
+                    Sort::Closed
+                }
+                (_, sort) => sort,
+            };
+            *self.counts.entry((name(call), sort)).or_insert(0) += 1;
+        }
+    }
+
+    /// The count of a sort, over all calls.
+    pub fn sort(&self, sort: Sort) -> usize {
+        let counts = self.counts.iter().filter(|((_, other), _)| *other == sort);
+        counts.map(|(_, count)| count).sum()
+    }
+
+    /// A line for each name of a call.
+    pub fn lines(&self) -> Vec<String> {
+        let mut lines: BTreeMap<&str, Vec<String>> = BTreeMap::new();
+        for ((name, sort), count) in &self.counts {
+            let words = format!("{sort} {count}");
+            lines.entry(name).or_default().push(words);
+        }
+        let line = |(name, words): (&str, Vec<String>)| format!("{name}: {}", words.join(", "));
+        lines.into_iter().map(line).collect()
+    }
+}
+
+fn sort(answer: Option<Answer>) -> Sort {
+    match answer {
+        None => Sort::Silent,
+        Some(Answer::Taken) => Sort::Taken,
+        Some(Answer::Finding(finding)) => Sort::Finding(finding.kind.number()),
+        Some(Answer::Interval(Interval::None)) => Sort::NoInterval,
+        Some(Answer::Interval(Interval::Open(_))) => Sort::Open,
+        Some(Answer::Interval(Interval::Closed(..))) => Sort::Closed,
+        Some(Answer::Totals(_)) => Sort::Totals,
+        Some(Answer::Refused(number)) => Sort::Refused(number),
+    }
+}
+
+fn name(call: Call) -> &'static str {
+    match call {
+        Call::Give(_) => "event",
+        Call::Fresh(_) => "fresh",
+        Call::Ask(_) => "ask",
+        Call::Close => "close",
+        Call::Fences(_) => "fences",
+    }
+}
