@@ -2,20 +2,47 @@
 use crate::text;
 use event::Fields;
 ghost use mathlib.Core.Path.{_≡_};
-ghost use Rattle.listing.specs.Text.{out, put};
+ghost use mathlib.Core.List.{_++_};
+ghost use Rattle.listing.specs.Text.{decimal, out, put};
 ghost use Rattle.listing.specs.Lines.{headLine, nameOf, isPrinted, values, columns, findingLine, footLine, refusalLine};
 ghost use Rattle.listing.specs.Lines.{field as Lines·field};
 ghost use Rattle.listing.specs.Area.{linesFrom};
+
+// A number between two words, and another between the second and a third.
+fn phrase(
+    text: &mut [u8],
+    at: usize,
+    first: &[u8],
+    m: u32,
+    second: &[u8],
+    n: u32,
+    third: &[u8],
+) -> usize
+    ensures { λ r. ⌜
+        out (now (text .exit)) r ≡
+        put (now (first .entry) ++ decimal m ++ now (second .entry) ++ decimal n ++ now (third .entry)) (out (now (text .entry)) at)
+        ⌝ }
+{
+    let a = text::put(text, at, first);
+    let b = text::number(text, a, m);
+    let c = text::put(text, b, second);
+    let d = text::number(text, c, n);
+    text::put(text, d, third)
+}
 
 // `trace 9 events 2 lines`
 pub fn head(text: &mut [u8], at: usize, events: u16, lines: u16) -> usize
     ensures { λ r. ⌜ out (now (text .exit)) r ≡ put (headLine events lines) (out (now (text .entry)) at) ⌝ }
 {
-    let a = text::put(text, at, b"trace ");
-    let b = text::number(text, a, events as u32);
-    let c = text::put(text, b, b" events ");
-    let d = text::number(text, c, lines as u32);
-    text::put(text, d, b" lines\n")
+    phrase(
+        text,
+        at,
+        b"trace ",
+        events as u32,
+        b" events ",
+        lines as u32,
+        b" lines\n",
+    )
 }
 
 // The name of a finding's kind; a number that is no kind has none.
@@ -112,9 +139,5 @@ pub fn foot(text: &mut [u8], at: usize, findings: u16) -> usize
 pub fn refusal(text: &mut [u8], at: usize, number: u8, place: u32) -> usize
     ensures { λ r. ⌜ out (now (text .exit)) r ≡ put (refusalLine number place) (out (now (text .entry)) at) ⌝ }
 {
-    let a = text::put(text, at, b"refused ");
-    let b = text::number(text, a, number as u32);
-    let c = text::put(text, b, b" at ");
-    let d = text::number(text, c, place);
-    text::put(text, d, b"\n")
+    phrase(text, at, b"refused ", number as u32, b" at ", place, b"\n")
 }

@@ -1,62 +1,35 @@
--- `listing::lines::refusal` meets its contract: its parts are put one after another. Assumes nothing.
-use borrow.Author.Needs.{needs}
-use Rattle.listing.specs.Text.{ascii, decimal, out}
+-- `listing::lines::refusal` meets its contract: it is one phrase. Assumes nothing.
 use Rattle.listing.specs.Lines.{refusalLine}
-use Rattle.listing.proofs.Put.{five}
 use borrow.Author.Needs.{needs}
 use Rattle.listing.proofs.lines.refusal.Statement.{statement}
 use Rattle.listing.proofs.lines.refusal.Tie as tie
 
-slice-aggregate-put : tie.Need-slice-aggregate-put
-slice-aggregate-put c = search needs
+slice-aggregate-phrase : tie.Need-slice-aggregate-phrase
+slice-aggregate-phrase c = search needs
 
-put-requires : tie.Need-put-requires
-put-requires c κs = search needs
+slice-aggregate-phrase-2 : tie.Need-slice-aggregate-phrase-2
+slice-aggregate-phrase-2 c = search needs
 
-number-requires : tie.Need-number-requires
-number-requires c κs = search needs
+slice-aggregate-phrase-3 : tie.Need-slice-aggregate-phrase-3
+slice-aggregate-phrase-3 c = search needs
 
-slice-aggregate-put-2 : tie.Need-slice-aggregate-put-2
-slice-aggregate-put-2 c = search needs
-
-put-requires-2 : tie.Need-put-requires-2
-put-requires-2 c κs = search needs
-
-number-requires-2 : tie.Need-number-requires-2
-number-requires-2 c κs = search needs
-
-slice-aggregate-put-3 : tie.Need-slice-aggregate-put-3
-slice-aggregate-put-3 c = search needs
-
-put-requires-3 : tie.Need-put-requires-3
-put-requires-3 c κs = search needs
+phrase-requires : tie.Need-phrase-requires
+phrase-requires c κs = search needs
 
 same-length : tie.Need-same-length
 same-length c = search needs
 
 returns : tie.Need-returns
 unfolding refusalLine
-returns c =
-    let fifth = c .before .before in
-    let fourth = fifth .before .before .before .before .before in
-    let third = fourth .before .before .before .before in
-    let second = third .before .before .before .before .before in
-    let first = second .before .before .before .before in
-    let k = first .before .before .before .before .args in
-    five (ascii "refused ") (decimal (k .number)) (ascii " at ") (decimal (k .place)) (ascii "\n") (out (k .text .now) (k .at))
-    (first .put .ensures) (second .number .ensures) (third .put2 .ensures) (fourth .number2 .ensures) (fifth .put3 .ensures)
+returns c = c .before .before .phrase .ensures
 
 pub refusal-spec : {M : Type 1} → statement M
 refusal-spec =
     tie.close
     (tie.spec
-    slice-aggregate-put
-    put-requires
-    number-requires
-    slice-aggregate-put-2
-    put-requires-2
-    number-requires-2
-    slice-aggregate-put-3
-    put-requires-3
+    slice-aggregate-phrase
+    slice-aggregate-phrase-2
+    slice-aggregate-phrase-3
+    phrase-requires
     same-length
     returns)
