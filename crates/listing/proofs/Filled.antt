@@ -1,12 +1,12 @@
 -- What text leaves in a slice that it is put into: as much of it as there is room for, and the bytes beyond as they were.
-use mathlib.Core.Path.{_≡_, refl, ap, ap₂, _∙_}
+use mathlib.Core.Path.{_≡_, ap, ap₂, _∙_}
 use mathlib.Core.List.{List, [], _∷_, _++_}
 use Prim.Native.Nat.{ℕ, _+_, _≤_, _<_, min}
 use native.Mathlib.Omega.{arith}
 use lib.ListN.{length, take, drop, length-append}
 use lib.Seq.{take-all, take-append-seam, drop-append-seam, set-append-seam, append-snoc, drop-nil}
 use borrow.Author.Tests.{lt-ltb, le-ltb}
-use Rattle.listing.specs.Text.{Out, out, putByte, put}
+use Rattle.listing.specs.Text.{out, putByte, put}
 
 -- one byte where there is room, and one where there is none
 module _ (b : ℕ) (a : List ℕ) where

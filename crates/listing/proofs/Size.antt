@@ -17,7 +17,7 @@ use Rattle.trace.specs.Records.{linesIn, eventsIn}
 use Rattle.judge.specs.Verdict.{traceCheck, historyOf, answersOf}
 use Rattle.listing.specs.Text.{Out, out, put}
 use Rattle.listing.specs.Lines.{headLine, names, nameOf, isPrinted, field, values, columns, findingLine, footLine, refusalLine}
-use Rattle.listing.specs.Report.{lineFor, findingLines, reportFor, reportOf}
+use Rattle.listing.specs.Report.{findingLines, reportFor, reportOf}
 use Rattle.listing.proofs.Decimal.{decimal-length}
 use Rattle.listing.proofs.Filled.{whole}
 use Rattle.listing.proofs.Area.{events-few}
