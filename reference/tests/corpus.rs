@@ -21,10 +21,6 @@ fn same_each_time() {
 fn stored_corpus_is_the_same() {
     let vectors = Path::new(env!("CARGO_MANIFEST_DIR")).join("../crates/vectors");
     let (stdin, stdout) = (vectors.join("stdin"), vectors.join("stdout"));
-    if !stdin.exists() && !stdout.exists() {
-        println!("no stored corpus: nothing is compared");
-        return;
-    }
     let corpus = build();
     let stored = std::fs::read(stdin).expect("the stored corpus is readable");
     assert!(stored == corpus.to_bytes(), "the stored corpus differs");

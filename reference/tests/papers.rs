@@ -6,10 +6,8 @@ use reference::script::Script;
 
 #[test]
 fn papers_pass() {
-    let scripts = paper_scripts(&papers_folder()).expect("the folder is readable or missing");
-    if scripts.is_empty() {
-        println!("no scripts in papers/: nothing is checked");
-    }
+    let scripts = paper_scripts(&papers_folder()).expect("the folder is readable");
+    assert!(!scripts.is_empty(), "no scripts in papers/");
     for path in scripts {
         let shown = path.display();
         let text = std::fs::read_to_string(&path).expect("a script is readable");

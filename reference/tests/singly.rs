@@ -411,10 +411,6 @@ fn build() -> Calls {
 fn stored_calls_are_the_same() {
     let stored = Path::new(env!("CARGO_MANIFEST_DIR")).join("../crates/engine_runs");
     let (stdin, stdout) = (stored.join("stdin"), stored.join("stdout"));
-    if !stdin.exists() && !stdout.exists() {
-        println!("no stored calls: nothing is compared");
-        return;
-    }
     let calls = build();
     let stored = std::fs::read(stdin).expect("the stored calls are readable");
     assert!(stored == calls.to_bytes(), "the stored calls differ");
