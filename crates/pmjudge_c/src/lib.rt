@@ -1,0 +1,36 @@
+// The judge for programs in C or Rust: one call. Its name starts with the library's, since a name is the whole program's, as in C.
+use event::numbers;
+use judge::Verdict;
+ghost use mathlib.Core.Path.{_≡_};
+ghost use Rattle.judge.specs.Verdict.{verdictOf, areaAfter};
+ghost use Rattle.pmjudge_c.specs.Answer.{answerOf};
+
+// The answer as numbers.
+fn answer_of(v: Verdict) -> [u32; 5]
+    ensures { λ r. ⌜ r ≡ answerOf v ⌝ }
+{
+    match v {
+        Verdict::Refused { refusal, record } => [numbers::number(refusal) as u32, record, 0, 0, 0],
+        Verdict::Accepted {
+            events,
+            fences,
+            findings,
+        } => [0, 0, events as u32, fences as u32, findings as u32],
+    }
+}
+
+// Judges a trace into a findings area. In C:
+//
+//     void pmjudge_judge(const uint8_t *trace, size_t trace_length,
+//                        uint8_t *area, size_t area_length, uint32_t answer[5]);
+//
+// The answer: the refusal's number, 0 where the trace is accepted; the number of the record refused; events, fences, and findings
+// other than none. No pointer is null, and neither area nor answer shares a byte with another of the three.
+#[no_mangle]
+pub extern "C" fn pmjudge_judge(trace: &[u8], area: &mut [u8], answer: &mut [u32; 5])
+    ensures { λ _. ⌜ now (answer .exit) ≡ answerOf (verdictOf (now (trace .entry)) (now (area .entry))) ⌝ }
+    ensures { λ _. ⌜ now (area .exit) ≡ areaAfter (now (trace .entry)) (now (area .entry)) ⌝ }
+{
+    let v = judge::judge(trace, area);
+    *answer = answer_of(v);
+}
