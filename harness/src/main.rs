@@ -1,10 +1,122 @@
 //! The proved judge beside other checkers: compared on random traces, fuzzed, and timed.
 
+mod differential;
+mod fuzz;
 mod judge;
 mod progress;
 
-fn main() {
-    let mut area = [0; 120];
-    println!("{:?}", judge::judge(&[], &mut area));
-    progress::Progress::new("traces", 0).done(0);
+use differential::Judge;
+use std::io::{self, ErrorKind, Write};
+use std::process::ExitCode;
+
+const HELP: &str = "\
+harness: the proved judge beside other checkers
+
+usage:
+  harness differential [TRACES [SEED]]   compare the judges with the unrelated checker on random
+                                         traces (200,000 of seed 1)
+  harness fuzz [STRINGS [SEED]]          give the proved judge arbitrary strings of bytes
+                                         (1,000,000 of seed 1)
+  harness --help                         print this text
+
+TRACES and STRINGS are numbers from 1, SEED is a number; digits only.
+Exit status: 0 as expected, 1 a difference or a violation, 2 bad usage or files.
+";
+
+const PROVED: Judge = Judge {
+    name: "proved",
+    call: judge::judge,
+};
+
+/// The judges that `differential` compares with the unrelated checker.
+const JUDGES: [Judge; 1] = [PROVED];
+
+const DEFAULT_SEED: u64 = 1;
+
+/// Lines for standard error.
+#[derive(Debug, PartialEq, Eq)]
+enum Failure {
+    /// A difference or a violation: exit status 1.
+    Found(String),
+    /// Bad usage or files: exit status 2.
+    Usage(String),
+}
+
+fn main() -> ExitCode {
+    let args: Result<Vec<String>, _> = std::env::args_os()
+        .skip(1)
+        .map(|arg| arg.into_string())
+        .collect();
+    let result = match &args {
+        Ok(args) => run(&args.iter().map(String::as_str).collect::<Vec<_>>()),
+        Err(arg) => Err(Failure::Usage(format!(
+            "harness: argument {arg:?} is not text in UTF-8\n"
+        ))),
+    };
+    match result.and_then(|text| print(&text)) {
+        Ok(()) => ExitCode::SUCCESS,
+        Err(Failure::Found(text)) => fail(&text, 1),
+        Err(Failure::Usage(text)) => fail(&text, 2),
+    }
+}
+
+fn fail(text: &str, status: u8) -> ExitCode {
+    eprint!("{text}");
+    ExitCode::from(status)
+}
+
+/// The text for standard output.
+fn run(words: &[&str]) -> Result<String, Failure> {
+    match words {
+        ["--help" | "-h"] => Ok(HELP.to_string()),
+        ["differential", numbers @ ..] => {
+            let (traces, seed) = count_and_seed(words[0], numbers, differential::TRACES)?;
+            differential::command(&JUDGES, traces, seed).map_err(Failure::Found)
+        }
+        ["fuzz", numbers @ ..] => {
+            let (strings, seed) = count_and_seed(words[0], numbers, fuzz::STRINGS)?;
+            fuzz::command(&PROVED, strings, seed).map_err(Failure::Found)
+        }
+        // The place for `bench` and `growth`.
+        [] => Err(usage("harness: a command is missing")),
+        [word, ..] => Err(usage(&format!("harness: no command `{word}`"))),
+    }
+}
+
+fn usage(message: &str) -> Failure {
+    Failure::Usage(format!("{message}; see `harness --help`\n"))
+}
+
+/// A count from 1 and a seed, each with its default.
+fn count_and_seed(command: &str, words: &[&str], count: u64) -> Result<(u64, u64), Failure> {
+    let numbers = match words {
+        [] => Some((count, DEFAULT_SEED)),
+        [count] => number(count).map(|count| (count, DEFAULT_SEED)),
+        [count, seed] => number(count).zip(number(seed)),
+        _ => None,
+    };
+    match numbers {
+        Some((count, seed)) if count > 0 => Ok((count, seed)),
+        _ => Err(usage(&format!(
+            "harness {command}: not a count from 1 and a seed: `{}`",
+            words.join(" ")
+        ))),
+    }
+}
+
+/// A number of digits only, of at most 64 bits.
+fn number(word: &str) -> Option<u64> {
+    let digits = word.bytes().all(|byte| byte.is_ascii_digit());
+    word.parse().ok().filter(|_| digits)
+}
+
+/// Writes to standard output. A pipe closed by its reader is no failure.
+fn print(text: &str) -> Result<(), Failure> {
+    let mut out = io::stdout().lock();
+    match out.write_all(text.as_bytes()).and_then(|()| out.flush()) {
+        Err(error) if error.kind() != ErrorKind::BrokenPipe => {
+            Err(Failure::Usage(format!("standard output: {error}\n")))
+        }
+        _ => Ok(()),
+    }
 }
