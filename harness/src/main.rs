@@ -1,6 +1,7 @@
 //! The proved judge beside other checkers: compared on random traces, fuzzed, and timed.
 
 mod judge;
+mod plain;
 mod progress;
 
 fn main() {
