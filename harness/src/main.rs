@@ -3,6 +3,8 @@
 mod judge;
 mod plain;
 mod progress;
+mod ranges;
+mod workloads;
 
 fn main() {
     let mut area = [0; 120];

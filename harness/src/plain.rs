@@ -434,14 +434,14 @@ impl Run {
 }
 
 #[cfg(test)]
-mod tests {
+pub mod tests {
     use super::judge;
     use crate::judge::Answer;
     use reference::random::{any_shape, damaged, small_shape, valid, Random};
     use reference::trace::MAX_TRACE;
     use reference::{area_after, Outcome};
 
-    fn answer_of(outcome: &Outcome) -> Answer {
+    pub fn answer_of(outcome: &Outcome) -> Answer {
         match outcome {
             Outcome::Accepted(report) => Answer::Accepted {
                 events: report.totals.events as u32,
@@ -455,7 +455,20 @@ mod tests {
         }
     }
 
-    fn same_as_reference(trace: &[u8], area_len: usize) -> bool {
+    /// A trace of a small or of any shape; one in three is damaged.
+    pub fn random_trace(random: &mut Random) -> Vec<u8> {
+        let shape = match random.below(2) {
+            0 => small_shape(random),
+            _ => any_shape(random),
+        };
+        match random.below(3) {
+            0 => damaged(random, &shape),
+            _ => valid(random, &shape),
+        }
+    }
+
+    /// Compares answer and area; whether the trace was accepted.
+    fn compare(trace: &[u8], area_len: usize) -> bool {
         let outcome = reference::judge(trace, area_len);
         let mut area = vec![0xa5; area_len];
         let answer = judge(trace, &mut area);
@@ -468,20 +481,13 @@ mod tests {
     fn answers_and_areas_are_those_of_the_reference() {
         let mut random = Random::new(11);
         let mut accepted = 0;
-        for count in 0..20_000 {
-            let shape = match count % 2 {
-                0 => small_shape(&mut random),
-                _ => any_shape(&mut random),
-            };
-            let trace = match count % 3 {
-                0 => damaged(&mut random, &shape),
-                _ => valid(&mut random, &shape),
-            };
+        for _ in 0..20_000 {
+            let trace = random_trace(&mut random);
             let area_len = match random.below(10) {
                 0 => random.below(trace.len() + 1),
                 _ => trace.len() + random.below(30),
             };
-            accepted += u32::from(same_as_reference(&trace, area_len));
+            accepted += u32::from(compare(&trace, area_len));
         }
         assert!((10_000..19_000).contains(&accepted), "{accepted} accepted");
     }
@@ -491,7 +497,7 @@ mod tests {
         let mut random = Random::new(12);
         for length in [0, 1, 15, 16, MAX_TRACE, MAX_TRACE + 1] {
             let noise: Vec<u8> = (0..length).map(|_| random.bits() as u8).collect();
-            same_as_reference(&noise, length);
+            compare(&noise, length);
         }
     }
 }
