@@ -1,13 +1,26 @@
 //! The proved judge beside other checkers: compared on random traces, fuzzed, and timed.
 
+mod bench;
+mod growth;
 mod judge;
 mod plain;
+mod plot;
 mod progress;
 mod ranges;
 mod workloads;
 
-fn main() {
-    let mut area = [0; 120];
-    println!("{:?}", judge::judge(&[], &mut area));
-    progress::Progress::new("traces", 0).done(0);
+use std::process::ExitCode;
+
+fn main() -> ExitCode {
+    let arguments: Vec<String> = std::env::args().skip(1).collect();
+    let arguments: Vec<&str> = arguments.iter().map(String::as_str).collect();
+    match arguments[..] {
+        ["bench"] => bench::run(None),
+        ["bench", svg] => bench::run(Some(svg)),
+        ["growth"] => growth::run(),
+        _ => {
+            eprintln!("usage: harness bench [SVG] | growth");
+            ExitCode::from(2)
+        }
+    }
 }
