@@ -256,6 +256,25 @@ pub fn judge(trace: &[u8], area: &mut [u8]) -> Answer {
     }
 }
 
+/// The place of the first entry that fits. Whole lines are passed over without a branch for each entry, so
+/// that this is vectorised.
+fn first(entries: &[u16], fits: impl Fn(u16) -> bool) -> Option<usize> {
+    let any = |line: &[u16]| line.iter().fold(false, |any, &entry| any | fits(entry));
+    let line = entries.chunks(LINE).position(any)?;
+    let rest = &entries[line * LINE..];
+    let at = rest.iter().position(|&entry| fits(entry))?;
+    Some(line * LINE + at)
+}
+
+/// Makes the stores of a line that are older than its write-back durable by this fence. Every entry is
+/// written, so that this is vectorised.
+fn close(durable: &mut [u16], stored: &[u16], written: u16, fence: u16) {
+    for (durable, &stored) in durable.iter_mut().zip(stored) {
+        let closes = (*durable == OPEN) & (stored < written);
+        *durable = if closes { fence } else { *durable };
+    }
+}
+
 /// The value of `durable` for a byte whose last store is not durable.
 const OPEN: u16 = u16::MAX;
 
@@ -323,7 +342,7 @@ impl Run {
             return Finding::NONE;
         }
         let begin = self.begin;
-        let unlogged = self.logged[a.clone()].iter().position(|&log| log != begin);
+        let unlogged = first(&self.logged[a.clone()], |log| log != begin);
         unlogged.map_or(Finding::NONE, |at| Finding::unlogged(a.start + at))
     }
 
@@ -350,12 +369,8 @@ impl Run {
         self.last_fence = self.event;
         for line in self.written.drain(..) {
             let bytes = line * LINE..(line + 1) * LINE;
-            let stored = &self.stored[bytes.clone()];
-            for (durable, &stored) in self.durable[bytes].iter_mut().zip(stored) {
-                if *durable == OPEN && stored < self.line_written[line] {
-                    *durable = self.event;
-                }
-            }
+            let (written, stored) = (self.line_written[line], &self.stored[bytes.clone()]);
+            close(&mut self.durable[bytes], stored, written, self.event);
         }
         Finding::NONE
     }
@@ -371,7 +386,7 @@ impl Run {
     fn log(&mut self, a: Range<usize>) -> Finding {
         let begin = self.begin;
         let logged = &mut self.logged[a.clone()];
-        let twice = logged.iter().position(|&log| log == begin);
+        let twice = first(logged, |log| log == begin);
         logged.fill(begin);
         twice.map_or(Finding::NONE, |at| Finding::logged_twice(a.start + at))
     }
@@ -384,43 +399,41 @@ impl Run {
         if self.last_store < self.begin {
             return Finding::EMPTY;
         }
-        for line in 0..self.lines {
-            if self.line_stored[line] > self.begin {
-                let bytes = line * LINE..(line + 1) * LINE;
-                let lost =
-                    |&byte: &usize| self.durable[byte] == OPEN && self.stored[byte] > self.begin;
-                if let Some(byte) = bytes.into_iter().find(lost) {
-                    return Finding::lost(byte, self.event, self.stored[byte]);
-                }
+        for line in (0..self.lines).filter(|&line| self.line_stored[line] > self.begin) {
+            let mut bytes = line * LINE..(line + 1) * LINE;
+            if first(&self.durable[bytes.clone()], |durable| durable == OPEN).is_none() {
+                continue;
+            }
+            let lost = |&byte: &usize| self.durable[byte] == OPEN && self.stored[byte] > self.begin;
+            if let Some(byte) = bytes.find(lost) {
+                return self.lost(byte);
             }
         }
         Finding::HOLDS
     }
 
     fn persisted(&self, a: Range<usize>) -> Finding {
-        let open = self.durable[a.clone()]
-            .iter()
-            .position(|&durable| durable == OPEN);
-        open.map_or(Finding::HOLDS, |at| {
-            let byte = a.start + at;
-            Finding::lost(byte, self.event, self.stored[byte])
-        })
+        let open = first(&self.durable[a.clone()], |durable| durable == OPEN);
+        open.map_or(Finding::HOLDS, |at| self.lost(a.start + at))
+    }
+
+    fn lost(&self, byte: usize) -> Finding {
+        Finding::lost(byte, self.event, self.stored[byte])
     }
 
     /// In one line a byte is lost while another is kept if its store is the later one. In two lines it is
     /// if it is not yet durable when the other is stored.
     fn ordered(&self, a: Range<usize>, b: Range<usize>) -> Finding {
+        let (stored, durable) = (&self.stored[a.clone()], &self.durable[a.clone()]);
         let mut broken = None;
         'pairs: for kept in b {
             let moment = self.stored[kept];
             if moment == 0 {
                 continue;
             }
-            for lost in a.clone() {
-                let safe_from = match lost / LINE == kept / LINE {
-                    true => self.stored[lost],
-                    false => self.durable[lost],
-                };
+            for (lost, (&stored, &durable)) in a.clone().zip(stored.iter().zip(durable)) {
+                let one_line = lost / LINE == kept / LINE;
+                let safe_from = if one_line { stored } else { durable };
                 if safe_from > moment {
                     broken = Some((lost, kept));
                     break 'pairs;
