@@ -57,12 +57,14 @@ impl<T: Copy + PartialEq> RangeMap<T> {
     fn update(&mut self, range: Range<usize>, mut change: impl FnMut(&mut T)) {
         self.split(range.start);
         self.split(range.end);
-        let mut edges = Vec::new();
-        for (&start, (_, value)) in self.parts.range_mut(range.clone()) {
+        let mut edges = vec![range.start, range.end];
+        for (&start, (end, value)) in self.parts.range_mut(range) {
+            let before = *value;
             change(value);
-            edges.push(start);
+            if *value != before {
+                edges.extend([start, *end]);
+            }
         }
-        edges.push(range.end);
         for edge in edges {
             self.join(edge);
         }
