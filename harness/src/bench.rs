@@ -11,9 +11,9 @@ use std::process::ExitCode;
 use std::time::{Duration, Instant};
 
 /// Samples of each checker and trace, of which the best counts.
-pub const SAMPLES: u64 = 25;
+pub const SAMPLES: u64 = 100;
 /// A sample repeats the call for at least this long.
-const SAMPLE: Duration = Duration::from_millis(15);
+pub const SAMPLE: Duration = Duration::from_millis(5);
 
 /// A checker: judges a trace into a findings area.
 pub type Checker = fn(&[u8], &mut [u8]) -> Answer;
@@ -22,7 +22,7 @@ pub type Checker = fn(&[u8], &mut [u8]) -> Answer;
 pub const CHECKERS: [(&str, Checker); 3] = [
     ("judge (proved)", judge::judge),
     ("plain Rust", plain::judge),
-    ("ranges (PMTest)", ranges::judge),
+    ("ranges (as PMTest)", ranges::judge),
 ];
 
 /// What was measured with one workload.
@@ -38,18 +38,18 @@ pub struct Row {
 
 /// Prints the table and writes the plot if a file is named. Status 1 if plain differs from the judge.
 pub fn run(svg: Option<&str>) -> ExitCode {
-    let mut progress = Progress::new("samples", SAMPLES * workloads::all().len() as u64);
-    let mut rows = Vec::new();
-    for workload in workloads::all() {
-        match measure(&workload, &mut progress, rows.len() as u64 * SAMPLES) {
-            Some(row) => rows.push(row),
-            None => {
-                eprintln!("{}: the plain implementation differs", workload.name);
-                return ExitCode::FAILURE;
-            }
-        }
+    let workloads = workloads::all();
+    let Some(mut rows) = workloads.iter().map(compared).collect::<Option<Vec<Row>>>() else {
+        return ExitCode::FAILURE;
+    };
+    let traces: Vec<&[u8]> = workloads
+        .iter()
+        .map(|workload| &workload.trace[..])
+        .collect();
+    let checkers = CHECKERS.map(|(_, checker)| checker);
+    for (row, best) in rows.iter_mut().zip(best_times(checkers, &traces)) {
+        row.ns_an_event = best.map(|ns| ns / row.records as f64);
     }
-    drop(progress);
     print_table(&rows);
     match svg.map(|file| std::fs::write(file, plot::svg(&rows))) {
         Some(Err(error)) => {
@@ -60,48 +60,46 @@ pub fn run(svg: Option<&str>) -> ExitCode {
     }
 }
 
-/// Nothing if plain differs from the judge.
-fn measure(workload: &Workload, progress: &mut Progress, done: u64) -> Option<Row> {
+/// A row without its times. Nothing, and a message, if plain differs from the judge.
+fn compared(workload: &Workload) -> Option<Row> {
     let trace = &workload.trace;
     let [expected, plain, ranges] = CHECKERS.map(|(_, checker)| {
         let mut area = vec![0xa5; trace.len()];
         (checker(trace, &mut area), area)
     });
+    if plain != expected {
+        eprintln!("{}: the plain implementation differs", workload.name);
+        return None;
+    }
     let Answer::Accepted { events, .. } = expected.0 else {
         panic!("{} is refused: {:?}", workload.name, expected.0);
     };
-    if plain != expected {
-        return None;
-    }
     let findings = ranges.1.chunks(RECORD).zip(expected.1.chunks(RECORD));
-    let ranges_differ = findings
-        .filter(|(found, expected)| found != expected)
-        .count();
-    let checkers = CHECKERS.map(|(_, checker)| checker);
-    let best = best_times(checkers, trace, |sample| progress.done(done + sample));
     Some(Row {
         name: workload.name,
         note: workload.note,
         records: events as usize,
-        ns_an_event: best.map(|ns| ns / f64::from(events)),
-        ranges_differ,
+        ns_an_event: [0.0; 3],
+        ranges_differ: findings
+            .filter(|(found, expected)| found != expected)
+            .count(),
     })
 }
 
-/// The best time of each checker on a trace, in ns. The checkers take turns, so that other work on
-/// the machine meets all of them.
-pub fn best_times<const N: usize>(
-    checkers: [Checker; N],
-    trace: &[u8],
-    mut sampled: impl FnMut(u64),
-) -> [f64; N] {
-    let mut area = vec![0; trace.len()];
-    let mut best = [f64::INFINITY; N];
-    for sample in 1..=SAMPLES {
-        for (best, checker) in best.iter_mut().zip(checkers) {
-            *best = best.min(sample_time(checker, trace, &mut area));
+/// The best time of each checker on each trace, in ns. The samples of all of them take turns, so that
+/// other work on the machine meets all alike.
+pub fn best_times<const N: usize>(checkers: [Checker; N], traces: &[&[u8]]) -> Vec<[f64; N]> {
+    let longest = traces.iter().map(|trace| trace.len()).max();
+    let mut area = vec![0; longest.unwrap_or(0)];
+    let mut best = vec![[f64::INFINITY; N]; traces.len()];
+    let mut progress = Progress::new("rounds", SAMPLES);
+    for round in 1..=SAMPLES {
+        for (best, trace) in best.iter_mut().zip(traces) {
+            for (best, checker) in best.iter_mut().zip(checkers) {
+                *best = best.min(sample_time(checker, trace, &mut area));
+            }
         }
-        sampled(sample);
+        progress.done(round);
     }
     best
 }
@@ -121,32 +119,43 @@ fn sample_time(checker: Checker, trace: &[u8], area: &mut [u8]) -> f64 {
 }
 
 fn print_table(rows: &[Row]) {
-    let names = CHECKERS.map(|(name, _)| format!(" {name} |"));
-    println!("ns an event, best of {SAMPLES} samples of at least {SAMPLE:?} each, the checkers in turns\n");
+    println!("ns an event, {}\n", how_measured());
     println!(
         "| Workload | Records |{} judge / plain | ranges / judge | ranges differs |",
-        names.concat()
+        CHECKERS.map(|(name, _)| format!(" {name} |")).concat()
     );
     println!("|---|--:|--:|--:|--:|--:|--:|--:|");
     for row in rows {
         let [judge, plain, ranges] = row.ns_an_event;
         println!(
-            "| {} | {} | {} | {} | {} | {:.2} | {:.2} | {} |",
+            "| {} | {} | {} | {} | {} | {} | {} | {} |",
             row.name,
             thousands(row.records as f64),
             number(judge),
             number(plain),
             number(ranges),
-            judge / plain,
-            ranges / judge,
+            ratio(judge / plain),
+            ratio(ranges / judge),
             thousands(row.ranges_differ as f64),
         );
     }
     println!();
     for row in rows {
-        println!("- {}: {}.", row.name, row.note);
+        println!("- {}: {}", row.name, row.note);
     }
-    println!("- ranges differs: findings other than the judge's, all of `ordered` events.");
+    println!("- ranges differs: the number of its findings that are not the judge's");
+}
+
+/// What a time is the best of.
+pub fn how_measured() -> String {
+    let ms = SAMPLE.as_millis();
+    format!("best of {SAMPLES} samples of at least {ms} ms each, taken in turns")
+}
+
+/// A ratio with two digits behind the point, or more if it is small.
+pub fn ratio(value: f64) -> String {
+    let zeros = -value.log10().floor();
+    format!("{value:.digits$}", digits = zeros.max(1.0) as usize + 1)
 }
 
 /// A measured number with three digits or more.
@@ -173,7 +182,7 @@ pub fn thousands(value: f64) -> String {
 
 #[cfg(test)]
 mod tests {
-    use super::{number, thousands};
+    use super::{number, ratio, thousands};
 
     #[test]
     fn numbers_have_commas() {
@@ -183,6 +192,14 @@ mod tests {
         assert_eq!(
             [4.567, 45.67, 4_567.8].map(number),
             ["4.57", "45.7", "4,568"]
+        );
+    }
+
+    #[test]
+    fn small_ratios_have_two_digits() {
+        assert_eq!(
+            [12.345, 1.0, 0.5, 0.00012].map(ratio),
+            ["12.35", "1.00", "0.50", "0.00012"]
         );
     }
 }

@@ -1,7 +1,6 @@
 //! How the time to judge a trace grows with its records and with the bytes that they name.
 
-use crate::bench::{best_times, number, thousands, CHECKERS, SAMPLES};
-use crate::progress::Progress;
+use crate::bench::{best_times, how_measured, number, ratio, thousands, CHECKERS};
 use crate::workloads::{large_ordered, large_persisted, random_events, trace_of};
 use reference::random::{Mix, Random};
 use reference::{Event, Range};
@@ -17,16 +16,17 @@ struct Series {
 /// Prints a table for each series.
 pub fn run() -> ExitCode {
     let all = series();
-    let rows: usize = all.iter().map(|series| series.traces.len()).sum();
-    let mut progress = Progress::new("samples", SAMPLES * rows as u64);
-    let mut done = 0;
-    let tables: Vec<String> = all
-        .iter()
-        .map(|series| table(series, &mut progress, &mut done))
-        .collect();
-    drop(progress);
-    println!("µs a trace, best of {SAMPLES} samples; in brackets the ratio to the row before\n");
-    println!("{}", tables.join("\n"));
+    let traces = all.iter().flat_map(|series| &series.traces);
+    let traces: Vec<&[u8]> = traces.map(|(_, trace)| &trace[..]).collect();
+    let checkers = [CHECKERS[0].1, CHECKERS[1].1];
+    let mut times = best_times(checkers, &traces).into_iter();
+    println!(
+        "µs a trace, {}; in brackets the ratio to the row before",
+        how_measured()
+    );
+    for series in &all {
+        print_table(series, &mut times);
+    }
     ExitCode::SUCCESS
 }
 
@@ -75,38 +75,33 @@ fn block_of_85() -> Vec<Event> {
         .expect("a seed whose mix leaves one transaction to end")
 }
 
-fn table(series: &Series, progress: &mut Progress, done: &mut u64) -> String {
+fn print_table(series: &Series, times: &mut impl Iterator<Item = [f64; 2]>) {
     let [judge, plain, _] = CHECKERS.map(|(name, _)| name);
-    let mut text = format!(
-        "{}:\n\n| {} | {judge} | {plain} | judge / plain |\n|--:|--:|--:|--:|\n",
-        series.title, series.size
-    );
+    println!("\n{}:\n", series.title);
+    println!("| {} | {judge} | {plain} | judge / plain |", series.size);
+    println!("|--:|--:|--:|--:|");
     let mut before = None;
-    for (size, trace) in &series.traces {
-        let checkers = [CHECKERS[0].1, CHECKERS[1].1];
-        let times = best_times(checkers, trace, |sample| progress.done(*done + sample));
-        *done += SAMPLES;
-        text += &row(*size, times, before);
+    for ((size, _), times) in series.traces.iter().zip(times) {
+        print_row(*size, times, before);
         before = Some(times);
     }
-    text
 }
 
-fn row(size: u16, times: [f64; 2], before: Option<[f64; 2]>) -> String {
+fn print_row(size: u16, times: [f64; 2], before: Option<[f64; 2]>) {
     let cell = |at: usize| {
         let time = number(times[at] / 1_000.0);
         match before {
-            Some(before) => format!("{time} ({:.2})", times[at] / before[at]),
+            Some(before) => format!("{time} ({})", ratio(times[at] / before[at])),
             None => time,
         }
     };
-    format!(
-        "| {} | {} | {} | {:.2} |\n",
+    println!(
+        "| {} | {} | {} | {} |",
         thousands(f64::from(size)),
         cell(0),
         cell(1),
-        times[0] / times[1]
-    )
+        ratio(times[0] / times[1])
+    );
 }
 
 #[cfg(test)]

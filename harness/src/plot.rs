@@ -1,6 +1,6 @@
 //! The plot of a benchmark as SVG: three bars for each workload on a logarithmic scale.
 
-use crate::bench::{number, Row, CHECKERS};
+use crate::bench::{number, thousands, Row, CHECKERS, SAMPLES};
 use std::fmt::Write;
 
 const WIDTH: f64 = 800.0;
@@ -100,7 +100,7 @@ fn decades(text: &mut String, scale: &Scale, bottom: f64) {
         let label = if power < 0 {
             value.to_string()
         } else {
-            crate::bench::thousands(value)
+            thousands(value)
         };
         let y = bottom + 18.0;
         line(
@@ -114,7 +114,7 @@ fn decades(text: &mut String, scale: &Scale, bottom: f64) {
     line(
         text,
         format_args!(
-            r#"<text x="{x}" y="{y}" text-anchor="middle">ns an event, best of several (logarithmic scale; shorter is faster)</text>"#
+            r#"<text x="{x}" y="{y}" text-anchor="middle">ns an event, best of {SAMPLES} samples (logarithmic scale)</text>"#
         ),
     );
 }
