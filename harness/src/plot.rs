@@ -140,3 +140,27 @@ fn bars(text: &mut String, scale: &Scale, row: &Row, top: f64) {
         );
     }
 }
+
+#[cfg(test)]
+mod tests {
+    use super::svg;
+    use crate::bench::Row;
+
+    #[test]
+    fn every_row_has_its_name_and_bars() {
+        let row = |name, ns_an_event| Row {
+            name,
+            note: "",
+            records: 1,
+            ns_an_event,
+            ranges_differ: 0,
+        };
+        let rows = [row("one", [1.5, 20.0, 300.0]), row("two", [0.5, 0.7, 1e6])];
+        let text = svg(&rows);
+        assert!(text.starts_with("<svg ") && text.ends_with("</svg>\n"));
+        assert_eq!(text.matches("<rect ").count(), 1 + 3 + 3 * rows.len());
+        for shown in [">one<", ">two<", ">0.1<", ">1,000,000<", ">1.50<", ">0.70<"] {
+            assert!(text.contains(shown), "{shown}");
+        }
+    }
+}

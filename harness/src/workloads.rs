@@ -1,12 +1,12 @@
 //! Traces to time checkers with. Each is accepted.
 
+use reference::event::{self, MAX_LINES};
 use reference::random::{self, Mix, Random, Shape};
 use reference::trace::{self, MAX_TRACE, RECORD, TRAILER};
 use reference::{Event, Range, Record};
 
-const LINES: u16 = 64;
-const LINE: u16 = 64;
-const WINDOW: u16 = LINES * LINE;
+const LINE: u16 = event::LINE as u16;
+const WINDOW: u16 = MAX_LINES * LINE;
 /// The most records that a trace can have.
 const MOST: usize = (MAX_TRACE - TRAILER) / RECORD;
 
@@ -17,45 +17,51 @@ pub struct Workload {
     pub trace: Vec<u8>,
 }
 
+impl Workload {
+    fn new(name: &'static str, note: &'static str, events: Vec<Event>) -> Workload {
+        let trace = trace_of(events);
+        Workload { name, note, trace }
+    }
+}
+
 /// Every workload, in the order of the table.
 pub fn all() -> Vec<Workload> {
     vec![
-        Workload {
-            name: "small stores",
-            note:
-                "stores of 8 bytes all over the window, their write-backs, a fence in eight records",
-            trace: trace_of(small_stores(500)),
-        },
-        Workload {
-            name: "undo-log transactions",
-            note: "four entries a transaction: logged, stored, written back, fenced",
-            trace: trace_of(transactions(300)),
-        },
-        Workload {
-            name: "large persisted",
-            note: "persisted over 4,096 bytes, all durable",
-            trace: trace_of(large_persisted(WINDOW, 400)),
-        },
-        Workload {
-            name: "large ordered",
-            note: "ordered over 2,048 bytes before 2,048, which holds: 4,194,304 pairs",
-            trace: trace_of(large_ordered(WINDOW / 2, 3)),
-        },
-        Workload {
-            name: "many fences",
-            note: "64 lines stored to and written back before each fence",
-            trace: trace_of(many_fences(1_500)),
-        },
-        Workload {
-            name: "random mixes",
-            note: "all kinds of event, ranges of up to 128 bytes",
-            trace: trace_of(random_mixes(8)),
-        },
-        Workload {
-            name: "largest trace",
-            note: "65,536 bytes: 5,460 events of all kinds, ranges of up to 16 bytes",
-            trace: trace_of(largest()),
-        },
+        Workload::new(
+            "small stores",
+            "stores of 8 bytes all over the window, their write-backs, a fence in eight records",
+            small_stores(500),
+        ),
+        Workload::new(
+            "undo-log transactions",
+            "four entries a transaction: logged, stored, written back, fenced",
+            transactions(300),
+        ),
+        Workload::new(
+            "large persisted",
+            "persisted over 4,096 bytes, all durable",
+            large_persisted(WINDOW, 400),
+        ),
+        Workload::new(
+            "large ordered",
+            "three times ordered over 2,048 bytes before 2,048, which holds: 4,194,304 pairs each",
+            large_ordered(WINDOW / 2, 3),
+        ),
+        Workload::new(
+            "many fences",
+            "64 lines stored to and written back before each fence",
+            many_fences(1_500),
+        ),
+        Workload::new(
+            "random mixes",
+            "all kinds of event, ranges of up to 128 bytes",
+            random_mixes(8),
+        ),
+        Workload::new(
+            "largest trace",
+            "65,536 bytes: 5,460 events of all kinds, ranges of up to 16 bytes",
+            largest(),
+        ),
     ]
 }
 
@@ -67,7 +73,7 @@ pub fn trace_of(events: Vec<Event>) -> Vec<u8> {
         .zip(sites)
         .map(|(event, site)| Record { event, site })
         .collect();
-    trace::write(LINES, &[], &records)
+    trace::write(MAX_LINES, &[], &records)
 }
 
 /// Groups of eight records. Each fourth group ends in a persisted, which holds; the others in a store
@@ -140,7 +146,7 @@ fn many_fences(count: usize) -> Vec<Event> {
 /// Random events of all kinds, ranges of up to so many bytes.
 pub fn random_events(random: &mut Random, events: usize, longest: u16, mix: Mix) -> Vec<Event> {
     let shape = Shape {
-        lines: LINES,
+        lines: MAX_LINES,
         events,
         mix,
         longest,
