@@ -8,8 +8,9 @@ use std::ops::Range;
 
 /// Bytes of a line.
 pub const LINE: usize = 64;
-/// Bytes of the largest window.
-pub const WINDOW: usize = 64 * LINE;
+/// Lines and bytes of the largest window.
+const LINES: usize = 64;
+const WINDOW: usize = LINES * LINE;
 /// Bytes of a record, and of a finding.
 pub const RECORD: usize = 12;
 const TRAILER: usize = 16;
@@ -163,15 +164,15 @@ fn open_trailer(trace: &[u8]) -> Result<Records<'_>, u32> {
         return Err(3);
     }
     let (offset, count) = (u32_at(trailer, 4), u32_at(trailer, 8));
-    let (lines, zero) = (u16_at(trailer, 12), u16_at(trailer, 14));
-    if !(1..=64).contains(&lines) || zero != 0 {
+    let (lines, zero) = (usize::from(u16_at(trailer, 12)), u16_at(trailer, 14));
+    if !(1..=LINES).contains(&lines) || zero != 0 {
         return Err(4);
     }
     if u64::from(offset) + RECORD as u64 * u64::from(count) != front.len() as u64 {
         return Err(5);
     }
     Ok(Records {
-        lines: usize::from(lines),
+        lines,
         bytes: &front[offset as usize..],
     })
 }
@@ -289,9 +290,9 @@ struct Run {
     /// Of each byte: the outermost begin of the last transaction that logged it.
     logged: [u16; WINDOW],
     /// Of each line: the last store to it.
-    line_stored: [u16; 64],
+    line_stored: [u16; LINES],
     /// Of each line: its last write-back that followed a store to it.
-    line_written: [u16; 64],
+    line_written: [u16; LINES],
     /// The lines that the next fence makes durable up to their last write-back.
     written: Vec<usize>,
     last_fence: u16,
@@ -309,8 +310,8 @@ impl Run {
             stored: [0; WINDOW],
             durable: [0; WINDOW],
             logged: [0; WINDOW],
-            line_stored: [0; 64],
-            line_written: [0; 64],
+            line_stored: [0; LINES],
+            line_written: [0; LINES],
             written: Vec::with_capacity(lines),
             last_fence: 0,
             last_store: 0,
