@@ -96,7 +96,8 @@ impl Given {
     }
 }
 
-fn answer_of(outcome: &Outcome) -> Answer {
+/// The outcome as a judge answers it.
+pub fn answer_of(outcome: &Outcome) -> Answer {
     match outcome {
         Outcome::Refused(refusal) => Answer::Refused {
             number: u32::from(refusal.number),

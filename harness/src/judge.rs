@@ -6,7 +6,11 @@ pub enum Answer {
     /// The refusal's number, and the record's from 1, or 0.
     Refused { number: u32, record: u32 },
     /// `findings` counts those other than none.
-    Accepted { events: u32, fences: u32, findings: u32 },
+    Accepted {
+        events: u32,
+        fences: u32,
+        findings: u32,
+    },
 }
 
 mod ffi {

@@ -1,9 +1,15 @@
 //! The proved judge beside other checkers: compared on random traces, fuzzed, and timed.
 
+mod bench;
 mod differential;
 mod fuzz;
+mod growth;
 mod judge;
+mod plain;
+mod plot;
 mod progress;
+mod ranges;
+mod workloads;
 
 use differential::Judge;
 use std::io::{self, ErrorKind, Write};
@@ -17,6 +23,9 @@ usage:
                                          traces (200,000 of seed 1)
   harness fuzz [STRINGS [SEED]]          give the proved judge arbitrary strings of bytes
                                          (1,000,000 of seed 1)
+  harness bench [SVG]                    time the proved judge beside an implementation in plain Rust
+                                         and a checker in the way of PMTest; the plot goes to SVG
+  harness growth                         time it against the records of a trace and the bytes named
   harness --help                         print this text
 
 TRACES and STRINGS are numbers from 1, SEED is a number; digits only.
@@ -28,8 +37,13 @@ const PROVED: Judge = Judge {
     call: judge::judge,
 };
 
+const PLAIN: Judge = Judge {
+    name: "plain",
+    call: plain::judge,
+};
+
 /// The judges that `differential` compares with the unrelated checker.
-const JUDGES: [Judge; 1] = [PROVED];
+const JUDGES: [Judge; 2] = [PROVED, PLAIN];
 
 const DEFAULT_SEED: u64 = 1;
 
@@ -77,9 +91,22 @@ fn run(words: &[&str]) -> Result<String, Failure> {
             let (strings, seed) = count_and_seed(words[0], numbers, fuzz::STRINGS)?;
             fuzz::command(&PROVED, strings, seed).map_err(Failure::Found)
         }
-        // The place for `bench` and `growth`.
+        ["bench"] => bench::measured()
+            .map(|rows| bench::table(&rows))
+            .map_err(Failure::Found),
+        ["bench", svg] => bench_with_plot(svg),
+        ["growth"] => Ok(growth::command()),
         [] => Err(usage("harness: a command is missing")),
         [word, ..] => Err(usage(&format!("harness: no command `{word}`"))),
+    }
+}
+
+/// The table, after the plot has been written.
+fn bench_with_plot(svg: &str) -> Result<String, Failure> {
+    let rows = bench::measured().map_err(Failure::Found)?;
+    match std::fs::write(svg, plot::svg(&rows)) {
+        Ok(()) => Ok(bench::table(&rows)),
+        Err(error) => Err(Failure::Usage(format!("{svg}: {error}\n"))),
     }
 }
 

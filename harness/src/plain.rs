@@ -1,0 +1,504 @@
+//! The same rules in plain Rust, not proved: what the judge is compared with and timed against.
+//!
+//! A first pass over the records checks every limit, so that a refused trace writes nothing. A second
+//! one judges, with tables over the window's bytes and lines.
+
+use crate::judge::Answer;
+use std::ops::Range;
+
+/// Bytes of a line.
+pub const LINE: usize = 64;
+/// Lines and bytes of the largest window.
+const LINES: usize = 64;
+const WINDOW: usize = LINES * LINE;
+/// Bytes of a record, and of a finding.
+pub const RECORD: usize = 12;
+const TRAILER: usize = 16;
+const LONGEST: usize = 65_536;
+const DEEPEST: usize = 8;
+
+/// An event, with the addresses of its ranges.
+#[derive(Clone, Debug, PartialEq, Eq)]
+pub enum Event {
+    Store(Range<usize>),
+    WriteBack(Range<usize>),
+    Fence,
+    Begin,
+    Log(Range<usize>),
+    End,
+    Persisted(Range<usize>),
+    /// The first range before the second.
+    Ordered(Range<usize>, Range<usize>),
+}
+
+/// What an event gets; the site is added when it is written.
+#[derive(Clone, Copy, Debug, Default, PartialEq, Eq)]
+pub struct Finding {
+    pub kind: u8,
+    pub lost: u16,
+    pub kept: u16,
+    pub moment: u16,
+    pub store: u16,
+}
+
+impl Finding {
+    pub const NONE: Finding = Finding::of(0, 0);
+    pub const HOLDS: Finding = Finding::of(1, 0);
+    pub const EMPTY: Finding = Finding::of(8, 0);
+
+    const fn of(kind: u8, lost: u16) -> Finding {
+        Finding {
+            kind,
+            lost,
+            kept: 0,
+            moment: 0,
+            store: 0,
+        }
+    }
+
+    pub fn lost(byte: usize, moment: u16, store: u16) -> Finding {
+        Finding {
+            moment,
+            store,
+            ..Finding::of(2, byte as u16)
+        }
+    }
+
+    pub fn out_of_order(lost: usize, kept: usize, moment: u16, store: u16) -> Finding {
+        Finding {
+            kept: kept as u16,
+            moment,
+            store,
+            ..Finding::of(3, lost as u16)
+        }
+    }
+
+    pub fn unlogged(byte: usize) -> Finding {
+        Finding::of(4, byte as u16)
+    }
+
+    pub fn clean(line: usize) -> Finding {
+        Finding::of(5, (line * LINE) as u16)
+    }
+
+    pub fn written_twice(line: usize) -> Finding {
+        Finding::of(6, (line * LINE) as u16)
+    }
+
+    pub fn logged_twice(byte: usize) -> Finding {
+        Finding::of(7, byte as u16)
+    }
+
+    fn write(&self, site: u16, place: &mut [u8]) {
+        place[0] = self.kind;
+        place[1] = 0;
+        let fields = [self.lost, self.kept, self.moment, self.store, site];
+        for (bytes, field) in place[2..].chunks_exact_mut(2).zip(fields) {
+            bytes.copy_from_slice(&field.to_le_bytes());
+        }
+    }
+}
+
+/// The records of a trace that no limit refuses.
+pub struct Records<'a> {
+    pub lines: usize,
+    bytes: &'a [u8],
+}
+
+/// Checks a whole trace: 1 to 5, 14, 6 to 12 record by record, 13. No trace has the 65,536 records of 10.
+pub fn open<'a>(trace: &'a [u8], area: &[u8]) -> Result<Records<'a>, Answer> {
+    let records = open_trailer(trace).map_err(|number| refused(number, 0))?;
+    if area.len() < records.bytes.len() {
+        return Err(refused(14, 0));
+    }
+    let window = records.lines * LINE;
+    let mut depth = 0;
+    for (at, record) in records.bytes.chunks_exact(RECORD).enumerate() {
+        check_record(record, window)
+            .and_then(|()| check_depth(record[0], &mut depth))
+            .map_err(|number| refused(number, at as u32 + 1))?;
+    }
+    if depth > 0 {
+        return Err(refused(13, 0));
+    }
+    Ok(records)
+}
+
+impl Records<'_> {
+    /// Gives each event in order to `judge_event` and writes its finding.
+    pub fn judge_each(
+        &self,
+        area: &mut [u8],
+        mut judge_event: impl FnMut(Event) -> Finding,
+    ) -> Answer {
+        let (mut fences, mut findings) = (0, 0);
+        let places = area.chunks_exact_mut(RECORD);
+        for (record, place) in self.bytes.chunks_exact(RECORD).zip(places) {
+            let event = read_event(record);
+            fences += u32::from(event == Event::Fence);
+            let finding = judge_event(event);
+            findings += u32::from(finding.kind != 0);
+            finding.write(u16_at(record, 10), place);
+        }
+        Answer::Accepted {
+            events: (self.bytes.len() / RECORD) as u32,
+            fences,
+            findings,
+        }
+    }
+}
+
+fn refused(number: u32, record: u32) -> Answer {
+    Answer::Refused { number, record }
+}
+
+fn open_trailer(trace: &[u8]) -> Result<Records<'_>, u32> {
+    if trace.len() < TRAILER {
+        return Err(1);
+    }
+    if trace.len() > LONGEST {
+        return Err(2);
+    }
+    let (front, trailer) = trace.split_at(trace.len() - TRAILER);
+    if !trailer.starts_with(b"PTRA") {
+        return Err(3);
+    }
+    let (offset, count) = (u32_at(trailer, 4), u32_at(trailer, 8));
+    let (lines, zero) = (usize::from(u16_at(trailer, 12)), u16_at(trailer, 14));
+    if !(1..=LINES).contains(&lines) || zero != 0 {
+        return Err(4);
+    }
+    if u64::from(offset) + RECORD as u64 * u64::from(count) != front.len() as u64 {
+        return Err(5);
+    }
+    Ok(Records {
+        lines,
+        bytes: &front[offset as usize..],
+    })
+}
+
+/// Refusals 6 to 9.
+fn check_record(record: &[u8], window: usize) -> Result<(), u32> {
+    let used = match record[0] {
+        3 | 4 | 6 => 0,
+        1 | 2 | 5 | 7 => 1,
+        8 => 2,
+        _ => return Err(6),
+    };
+    let (ranges, lacking) = record[2..10].split_at(4 * used);
+    if record[1] != 0 || lacking.iter().any(|&byte| byte != 0) {
+        return Err(7);
+    }
+    if ranges.chunks_exact(4).any(|range| u16_at(range, 2) == 0) {
+        return Err(8);
+    }
+    if ranges
+        .chunks_exact(4)
+        .any(|range| range_at(range, 0).end > window)
+    {
+        return Err(9);
+    }
+    Ok(())
+}
+
+/// Refusals 11 and 12.
+fn check_depth(kind: u8, depth: &mut usize) -> Result<(), u32> {
+    match kind {
+        4 if *depth == DEEPEST => return Err(12),
+        5 | 6 if *depth == 0 => return Err(11),
+        4 => *depth += 1,
+        6 => *depth -= 1,
+        _ => {}
+    }
+    Ok(())
+}
+
+/// The event of a record that has been checked.
+fn read_event(record: &[u8]) -> Event {
+    let a = range_at(record, 2);
+    match record[0] {
+        1 => Event::Store(a),
+        2 => Event::WriteBack(a),
+        3 => Event::Fence,
+        4 => Event::Begin,
+        5 => Event::Log(a),
+        6 => Event::End,
+        7 => Event::Persisted(a),
+        _ => Event::Ordered(a, range_at(record, 6)),
+    }
+}
+
+fn range_at(bytes: &[u8], at: usize) -> Range<usize> {
+    let start = usize::from(u16_at(bytes, at));
+    start..start + usize::from(u16_at(bytes, at + 2))
+}
+
+fn u16_at(bytes: &[u8], at: usize) -> u16 {
+    u16::from_le_bytes([bytes[at], bytes[at + 1]])
+}
+
+fn u32_at(bytes: &[u8], at: usize) -> u32 {
+    u32::from(u16_at(bytes, at)) | u32::from(u16_at(bytes, at + 2)) << 16
+}
+
+/// The lines that hold a byte of the range.
+pub fn lines_of(range: &Range<usize>) -> Range<usize> {
+    range.start / LINE..(range.end - 1) / LINE + 1
+}
+
+/// Judges a trace into a findings area.
+pub fn judge(trace: &[u8], area: &mut [u8]) -> Answer {
+    match open(trace, area) {
+        Ok(records) => {
+            let mut run = Run::new(records.lines);
+            records.judge_each(area, |event| run.give(event))
+        }
+        Err(refusal) => refusal,
+    }
+}
+
+/// The place of the first entry that fits. Whole lines are passed over without a branch for each entry, so
+/// that this is vectorised.
+fn first(entries: &[u16], fits: impl Fn(u16) -> bool) -> Option<usize> {
+    let any = |line: &[u16]| line.iter().fold(false, |any, &entry| any | fits(entry));
+    let line = entries.chunks(LINE).position(any)?;
+    let rest = &entries[line * LINE..];
+    let at = rest.iter().position(|&entry| fits(entry))?;
+    Some(line * LINE + at)
+}
+
+/// Makes the stores of a line that are older than its write-back durable by this fence. Every entry is
+/// written, so that this is vectorised.
+fn close(durable: &mut [u16], stored: &[u16], written: u16, fence: u16) {
+    for (durable, &stored) in durable.iter_mut().zip(stored) {
+        let closes = (*durable == OPEN) & (stored < written);
+        *durable = if closes { fence } else { *durable };
+    }
+}
+
+/// The value of `durable` for a byte whose last store is not durable.
+const OPEN: u16 = u16::MAX;
+
+/// What the events so far say. Entries are event numbers, 0 for no such event.
+struct Run {
+    lines: usize,
+    event: u16,
+    /// Of each byte: its last store.
+    stored: [u16; WINDOW],
+    /// Of each byte: the fence that made its last store durable, or `OPEN`.
+    durable: [u16; WINDOW],
+    /// Of each byte: the outermost begin of the last transaction that logged it.
+    logged: [u16; WINDOW],
+    /// Of each line: the last store to it.
+    line_stored: [u16; LINES],
+    /// Of each line: its last write-back that followed a store to it.
+    line_written: [u16; LINES],
+    /// The lines that the next fence makes durable up to their last write-back.
+    written: Vec<usize>,
+    last_fence: u16,
+    last_store: u16,
+    depth: usize,
+    /// The outermost begin of the transaction that is open, if any is.
+    begin: u16,
+}
+
+impl Run {
+    fn new(lines: usize) -> Run {
+        Run {
+            lines,
+            event: 0,
+            stored: [0; WINDOW],
+            durable: [0; WINDOW],
+            logged: [0; WINDOW],
+            line_stored: [0; LINES],
+            line_written: [0; LINES],
+            written: Vec::with_capacity(lines),
+            last_fence: 0,
+            last_store: 0,
+            depth: 0,
+            begin: 0,
+        }
+    }
+
+    fn give(&mut self, event: Event) -> Finding {
+        self.event += 1;
+        match event {
+            Event::Store(a) => self.store(a),
+            Event::WriteBack(a) => self.write_back(a),
+            Event::Fence => self.fence(),
+            Event::Begin => self.begin(),
+            Event::Log(a) => self.log(a),
+            Event::End => self.end(),
+            Event::Persisted(a) => self.persisted(a),
+            Event::Ordered(a, b) => self.ordered(a, b),
+        }
+    }
+
+    fn store(&mut self, a: Range<usize>) -> Finding {
+        self.stored[a.clone()].fill(self.event);
+        self.durable[a.clone()].fill(OPEN);
+        self.line_stored[lines_of(&a)].fill(self.event);
+        self.last_store = self.event;
+        if self.depth == 0 {
+            return Finding::NONE;
+        }
+        let begin = self.begin;
+        let unlogged = first(&self.logged[a.clone()], |log| log != begin);
+        unlogged.map_or(Finding::NONE, |at| Finding::unlogged(a.start + at))
+    }
+
+    fn write_back(&mut self, a: Range<usize>) -> Finding {
+        let mut finding = Finding::NONE;
+        for line in lines_of(&a) {
+            if self.line_stored[line] > self.line_written[line] {
+                // A line written back since the last fence is in the list already.
+                if self.line_written[line] <= self.last_fence {
+                    self.written.push(line);
+                }
+                self.line_written[line] = self.event;
+            } else if finding == Finding::NONE {
+                finding = match self.line_stored[line] {
+                    0 => Finding::clean(line),
+                    _ => Finding::written_twice(line),
+                };
+            }
+        }
+        finding
+    }
+
+    fn fence(&mut self) -> Finding {
+        self.last_fence = self.event;
+        for line in self.written.drain(..) {
+            let bytes = line * LINE..(line + 1) * LINE;
+            let (written, stored) = (self.line_written[line], &self.stored[bytes.clone()]);
+            close(&mut self.durable[bytes], stored, written, self.event);
+        }
+        Finding::NONE
+    }
+
+    fn begin(&mut self) -> Finding {
+        if self.depth == 0 {
+            self.begin = self.event;
+        }
+        self.depth += 1;
+        Finding::NONE
+    }
+
+    fn log(&mut self, a: Range<usize>) -> Finding {
+        let begin = self.begin;
+        let logged = &mut self.logged[a.clone()];
+        let twice = first(logged, |log| log == begin);
+        logged.fill(begin);
+        twice.map_or(Finding::NONE, |at| Finding::logged_twice(a.start + at))
+    }
+
+    fn end(&mut self) -> Finding {
+        self.depth -= 1;
+        if self.depth > 0 {
+            return Finding::NONE;
+        }
+        if self.last_store < self.begin {
+            return Finding::EMPTY;
+        }
+        for line in (0..self.lines).filter(|&line| self.line_stored[line] > self.begin) {
+            let mut bytes = line * LINE..(line + 1) * LINE;
+            if first(&self.durable[bytes.clone()], |durable| durable == OPEN).is_none() {
+                continue;
+            }
+            let lost = |&byte: &usize| self.durable[byte] == OPEN && self.stored[byte] > self.begin;
+            if let Some(byte) = bytes.find(lost) {
+                return self.lost(byte);
+            }
+        }
+        Finding::HOLDS
+    }
+
+    fn persisted(&self, a: Range<usize>) -> Finding {
+        let open = first(&self.durable[a.clone()], |durable| durable == OPEN);
+        open.map_or(Finding::HOLDS, |at| self.lost(a.start + at))
+    }
+
+    fn lost(&self, byte: usize) -> Finding {
+        Finding::lost(byte, self.event, self.stored[byte])
+    }
+
+    /// In one line a byte is lost while another is kept if its store is the later one. In two lines it is
+    /// if it is not yet durable when the other is stored.
+    fn ordered(&self, a: Range<usize>, b: Range<usize>) -> Finding {
+        let (stored, durable) = (&self.stored[a.clone()], &self.durable[a.clone()]);
+        let mut broken = None;
+        'pairs: for kept in b {
+            let moment = self.stored[kept];
+            if moment == 0 {
+                continue;
+            }
+            for (lost, (&stored, &durable)) in a.clone().zip(stored.iter().zip(durable)) {
+                let one_line = lost / LINE == kept / LINE;
+                let safe_from = if one_line { stored } else { durable };
+                if safe_from > moment {
+                    broken = Some((lost, kept));
+                    break 'pairs;
+                }
+            }
+        }
+        broken.map_or(Finding::HOLDS, |(lost, kept)| {
+            Finding::out_of_order(lost, kept, self.stored[kept], self.stored[lost])
+        })
+    }
+}
+
+#[cfg(test)]
+pub mod tests {
+    use super::judge;
+    use crate::differential::answer_of;
+    use crate::judge::Answer;
+    use reference::area_after;
+    use reference::random::{any_shape, damaged, small_shape, valid, Random};
+    use reference::trace::MAX_TRACE;
+
+    /// A trace of a small or of any shape; one in three is damaged.
+    pub fn random_trace(random: &mut Random) -> Vec<u8> {
+        let shape = match random.below(2) {
+            0 => small_shape(random),
+            _ => any_shape(random),
+        };
+        match random.below(3) {
+            0 => damaged(random, &shape),
+            _ => valid(random, &shape),
+        }
+    }
+
+    /// Compares answer and area; whether the trace was accepted.
+    fn compare(trace: &[u8], area_len: usize) -> bool {
+        let outcome = reference::judge(trace, area_len);
+        let mut area = vec![0xa5; area_len];
+        let answer = judge(trace, &mut area);
+        assert_eq!(answer, answer_of(&outcome), "{trace:?}");
+        assert_eq!(area, area_after(&outcome, area_len, 0xa5), "{trace:?}");
+        matches!(answer, Answer::Accepted { .. })
+    }
+
+    #[test]
+    fn answers_and_areas_are_those_of_the_reference() {
+        let mut random = Random::new(11);
+        let mut accepted = 0;
+        for _ in 0..20_000 {
+            let trace = random_trace(&mut random);
+            let area_len = match random.below(10) {
+                0 => random.below(trace.len() + 1),
+                _ => trace.len() + random.below(30),
+            };
+            accepted += u32::from(compare(&trace, area_len));
+        }
+        assert!((10_000..19_000).contains(&accepted), "{accepted} accepted");
+    }
+
+    #[test]
+    fn traces_at_the_limits_of_length() {
+        let mut random = Random::new(12);
+        for length in [0, 1, 15, 16, MAX_TRACE, MAX_TRACE + 1] {
+            let noise: Vec<u8> = (0..length).map(|_| random.bits() as u8).collect();
+            compare(&noise, length);
+        }
+    }
+}
