@@ -1,22 +1,24 @@
 -- The checks of a trace in their order: the trailer, the area, the records.
 use mathlib.Core.Path.{_≡_, refl, ap}
-use mathlib.Core.Bool.{Bool, true, false, cond}
+use mathlib.Core.Bool.{Bool, true, false, cond, not}
 use mathlib.Core.List.{List, [], _∷_, _++_}
 use Prim.Native.Nat.{ℕ, _*_, _≤_, _<_}
 use native.Mathlib.Omega.{arith}
+use lib.Dec.{eqb}
 use lib.ListN.{length}
-use borrow.Author.Tests.{lt-ltb, le-ltb}
+use borrow.Author.Tests.{lt-ltb, le-ltb, ltb-false, eqb-true}
 use Rattle.event.specs.declared.Refusal.{Refusal}
 use Rattle.event.specs.declared.Refusal.the-variants.{AreaTooShort}
 use Rattle.event.specs.declared.Check.{Check}
 use Rattle.event.specs.declared.Check.the-variants.{Passed as Fits, Refused as Breaks}
 use Rattle.event.specs.Window.{mostLines}
+use Rattle.event.proofs.Bools.{contradiction, fails-not, not-of}
 use Rattle.history.specs.Refused.{Limit, firstBroken, NoneBroken}
 use Rattle.history.proofs.Given.{none-broken}
 use Rattle.trace.specs.declared.Trailer.{Trailer}
 use Rattle.trace.specs.declared.Opened.the-variants.{Refused as NotOpened, Known}
 use Rattle.trace.specs.declared.TraceCheck.the-variants.{Refused as RefusedAt}
-use Rattle.trace.specs.Trailer.{trailerOf, fileLimits, openedFor, openedOf}
+use Rattle.trace.specs.Trailer.{mostBytes, trailerOf, endOf, fileLimits, openedFor, openedOf}
 use Rattle.trace.specs.Records.{linesIn, recordsIn}
 use Rattle.trace.specs.Checked.{unlessBroken, checkAll}
 use Rattle.trace.proofs.Lines.{window-lines, few-lines}
@@ -42,6 +44,9 @@ broken-later (l ∷ xs) ys e = go (l .broken) e (λ k. broken-later xs ys k)
         cond b (Breaks (l .number)) (firstBroken (xs ++ ys)) ≡ firstBroken ys
     go true k rest = let z : _≡_ {A = ℕ} 0 1 = cc in absurd (omega arith)
     go false k rest = rest k
+
+not-false : (b : Bool) → not b ≡ false → b ≡ true
+not-false b e = fails-not b (λ k. contradiction (not-of k) e)
 
 module _ (s area : List ℕ) where
   -- a trailer that is refused is so by the first limit that is broken
@@ -79,3 +84,13 @@ module _ (s area : List ℕ) where
       where
         go : NoneBroken (fileLimits s) → linesIn s ≤ mostLines
         go (NoneBroken.cons a (NoneBroken.cons b (NoneBroken.cons c (NoneBroken.cons d e)))) = few-lines (linesIn s) (window-lines (trailerOf s) d)
+
+    -- and the findings of its records at most 65,520 bytes: the longest trace without its trailer
+    pub records-fit : findingSize * t .count ≤ 65520
+    records-fit = go (opened s known .limits)
+      where
+        go : NoneBroken (fileLimits s) → findingSize * t .count ≤ 65520
+        go (NoneBroken.cons a (NoneBroken.cons b (NoneBroken.cons c (NoneBroken.cons d (NoneBroken.cons e f))))) =
+            let whole = ltb-false mostBytes (length s) b in
+            let ends = eqb-true (endOf (trailerOf s)) (length s) (not-false (eqb (endOf (trailerOf s)) (length s)) e) in
+            omega (arith, whole, ends, ap (λ (t : Trailer). t .count) (opened s known .trailer))

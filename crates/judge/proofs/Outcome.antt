@@ -1,14 +1,12 @@
 -- What the judge answers and what it leaves in the area, from what the code finds of the trace.
-use mathlib.Core.Path.{_≡_, sym, ap, _∙_}
+use mathlib.Core.Path.{_≡_, refl, sym, ap, _∙_}
 use mathlib.Core.List.{List, _++_}
 use Prim.Native.Nat.{ℕ, _*_, _≤_}
 use native.Mathlib.Omega.{arith}
-use lib.ListN.{length, drop}
+use lib.ListN.{length, take, drop}
 use Rattle.event.specs.declared.Refusal.{Refusal}
-use Rattle.event.specs.declared.Parsed.{Parsed}
 use Rattle.history.specs.Interval.{epochAt}
 use Rattle.history.specs.Given.{reported}
-use Rattle.tables.specs.declared.Counts.{Counts}
 use Rattle.engine.specs.Call.{emptyRun}
 use Rattle.trace.specs.declared.Trailer.{Trailer}
 use Rattle.trace.specs.declared.Opened.the-variants.{Known}
@@ -16,13 +14,12 @@ use Rattle.trace.specs.declared.TraceCheck.{TraceCheck}
 use Rattle.trace.specs.declared.TraceCheck.the-variants.{Refused as RefusedAt, Passed}
 use Rattle.trace.specs.Trailer.{trailerOf, openedOf}
 use Rattle.trace.specs.Records.{recordPart, recordsOf, linesIn, recordsIn, eventsIn}
-use Rattle.trace.specs.Checked.{checkAll}
 use Rattle.trace.proofs.RecordsNext.{records-counted}
 use Rattle.trace.proofs.KnownBytes.{opened}
 use Rattle.judge.specs.declared.Verdict.the-variants.{Refused, Accepted}
 use Rattle.judge.specs.Verdict.{findingSize, areaSize, traceCheck, historyOf, answersOf, verdictOf, findingsBytes, areaAfter}
-use Rattle.judge.specs.Pass.{Stage, stage, recordsGiven}
-use Rattle.judge.proofs.Whole.{Judged, judged}
+use Rattle.judge.specs.Pass.{stage, Ended, recordsJudged, verdictFrom, verdictBy, areaFrom, areaBy}
+use Rattle.judge.proofs.Whole.{Judged, judged-check, judged}
 use Rattle.judge.proofs.Order.{records-decide, window-fits}
 
 module _ (s area : List ℕ) where
@@ -52,40 +49,47 @@ module _ (s area : List ℕ) where
   all-counted : length (recordsIn s) ≡ trailerOf s .count
   all-counted = records-counted (trailerOf s .count) (recordPart (trailerOf s .offset) s)
 
-  -- what the code finds of the records, in the part of the trace where they are
+  -- what the code finds of the records, in the part of the trace where they are, with a buffer that has room for their findings
   module _ {t : Trailer} (known : openedOf s ≡ Known t) (fits : findingSize * t .count ≤ length area)
-      {part : List ℕ} (is : part ≡ recordPart (t .offset) s) {c : TraceCheck} (checked : c ≡ checkAll (t .lines) (recordsOf (t .count) part)) where
-    -- the records of the part are those of the trace
-    same-records : {A : Type 0} (f : ℕ → List Parsed → A) → f (t .lines) (recordsOf (t .count) part) ≡ f (linesIn s) (recordsIn s)
-    same-records f =
-        ap (λ (part : List ℕ). f (t .lines) (recordsOf (t .count) part)) is ∙
-        ap (λ (t : Trailer). f (t .lines) (recordsOf (t .count) (recordPart (t .offset) s))) (sym (opened s known .trailer))
+      {part : List ℕ} (is : part ≡ recordPart (t .offset) s) (buffer : List ℕ) (room : findingSize * t .count ≤ length buffer) where
+    -- where the records of the part lead
+    abbrev end : Ended
+    end = recordsJudged (recordsOf (t .count) part) 1 0 (stage (emptyRun (t .lines)) buffer)
 
-    -- so their check is what refuses the trace, if anything does
-    is-check : traceCheck s area ≡ c
-    is-check = records-decide s area known fits ∙ sym (checked ∙ same-records checkAll)
+    -- they are those of the trace
+    abbrev inTrace : Ended
+    inTrace = recordsJudged (recordsIn s) 1 0 (stage (emptyRun (linesIn s)) buffer)
 
-    pub refused-record : {x : Refusal} {n : ℕ} → c ≡ RefusedAt x n → traceCheck s area ≡ RefusedAt x n
-    refused-record k = is-check ∙ k
+    same-end : end ≡ inTrace
+    same-end =
+        ap (λ (part : List ℕ). recordsJudged (recordsOf (t .count) part) 1 0 (stage (emptyRun (t .lines)) buffer)) is ∙
+        ap (λ (t : Trailer). recordsJudged (recordsOf (t .count) (recordPart (t .offset) s)) 1 0 (stage (emptyRun (t .lines)) buffer))
+        (sym (opened s known .trailer))
 
-    -- the pass over them
-    abbrev pass : (lines : ℕ) → List Parsed → Stage
-    pass lines records = recordsGiven records 0 (stage (emptyRun lines) area)
+    -- so they end with what refuses the trace, if anything does
+    is-check : inTrace .check ≡ traceCheck s area
+    is-check = judged-check (linesIn s) (window-fits s area known) (recordsIn s) buffer ∙ sym (records-decide s area known fits)
 
-    -- leaves the totals and the findings of the trace's events, where the check passes
-    leaves : c ≡ Passed → Judged (linesIn s) (recordsIn s) area (pass (linesIn s) (recordsIn s))
+    -- as many bytes as the area takes
+    size : findingSize * t .count ≡ areaSize s
+    size = ap (λ (t : Trailer). findingSize * t .count) (sym (opened s known .trailer))
+
+    -- where nothing does, they leave the totals and the findings of the trace's events
+    leaves : traceCheck s area ≡ Passed → Judged (linesIn s) (recordsIn s) buffer (inTrace .stage)
     leaves k =
-        let count = ap (λ (t : Trailer). t .count) (opened s known .trailer) in
-        let room : findingSize * length (recordsIn s) ≤ length area = omega (arith, fits, count, all-counted) in
-        judged (linesIn s) (window-fits s area known) (recordsIn s) area (sym (records-decide s area known fits) ∙ is-check ∙ k) room
+        let inside : findingSize * length (recordsIn s) ≤ length buffer = omega (arith, room, size, all-counted) in
+        judged (linesIn s) (window-fits s area known) (recordsIn s) buffer (sym (records-decide s area known fits) ∙ k) inside
 
-    pub accepted-trace : c ≡ Passed → {counts : Counts} {next : List ℕ} →
-        counts ≡ pass (t .lines) (recordsOf (t .count) part) .run .counts → next ≡ pass (t .lines) (recordsOf (t .count) part) .area →
-        (Accepted (counts .events) (counts .fences) (counts .findings) ≡ verdictOf s area) × (next ≡ areaAfter s area)
-    accepted-trace k totals left =
-        let j = leaves k in
-        let counted = totals ∙ ap (λ (s : Stage). s .run .counts) (same-records pass) in
-        let passes : traceCheck s area ≡ Passed = is-check ∙ k in (
-          rw (counted, j .events, j .fences, j .findings) (sym (totalled passes)),
-          left ∙ ap (λ (s : Stage). s .area) (same-records pass) ∙ j .area ∙ (rw all-counted) ∙ sym (area-holds passes),
+    -- the verdict and the area are then those of the trace, for either outcome of the check
+    decided : (c : TraceCheck) → traceCheck s area ≡ c →
+        (verdictFrom c (inTrace .stage) ≡ verdictOf s area) × (areaFrom c (areaSize s) (inTrace .stage .buffer) area ≡ areaAfter s area)
+    decided (RefusedAt x n) k = rejected k
+    decided Passed k =
+        let j = leaves k in (
+          rw (j .events, j .fences, j .findings) (sym (totalled k)),
+          ap (λ (front : List ℕ). front ++ drop (areaSize s) area) (ap (λ (n : ℕ). take (findingSize * n) (inTrace .stage .buffer)) (sym all-counted) ∙ j .buffer) ∙
+              sym (area-holds k),
         )
+
+    pub judged-trace : (verdictBy end ≡ verdictOf s area) × (areaBy (findingSize * t .count) end area ≡ areaAfter s area)
+    judged-trace = rw (same-end, size, is-check) (decided (traceCheck s area) refl)

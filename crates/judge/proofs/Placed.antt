@@ -1,7 +1,7 @@
 -- Bytes put into an area one after another, and the area with all of them.
 use mathlib.Core.Path.{_≡_, sym, ap, ap₂, _∙_}
 use mathlib.Core.List.{List, _++_, append-assoc}
-use Prim.Native.Nat.{ℕ, _+_, _≤_, _<_}
+use Prim.Native.Nat.{ℕ, suc, _+_, _≤_, _<_}
 use native.Mathlib.Numerals.{add-one}
 use native.Mathlib.Omega.{arith}
 use lib.ListN.{length, getD, set, take, drop, length-append}
@@ -16,6 +16,17 @@ put-more d at bytes i e inside more = rw (e, add-one) (paste-suc d at bytes i 0 
 -- all of them
 pub put-all : (d : List ℕ) (at : ℕ) (bytes : List ℕ) → paste d at bytes (length bytes) ≡ placed at bytes d
 put-all d at bytes = rw (take-length bytes)
+
+-- a list with the first i elements of another in front, in place of as many
+abbrev pub copied : (d s : List ℕ) → ℕ → List ℕ
+copied d s i = take i s ++ drop i d
+
+-- one more
+pub copy-more : (d s : List ℕ) (i : ℕ) {area : List ℕ} → area ≡ copied d s i → i < length d → i < length s → set area i (getD s i 0) ≡ copied d s (i + 1)
+copy-more d s i e inside more =
+    let here : 0 + i ≡ i = omega arith in
+    let next : 0 + suc i ≡ suc i = omega arith in
+    rw (e, add-one) (rw (here, next) at (paste-suc d 0 s i 0 (omega arith) more))
 
 -- the area keeps its length
 pub placed-length : (d : List ℕ) (at : ℕ) (bytes : List ℕ) → at + length bytes ≤ length d → length (placed at bytes d) ≡ length d

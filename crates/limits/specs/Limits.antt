@@ -1,15 +1,11 @@
 -- The limits 8 to 12 ask for three numbers of a run: the window's lines, the events taken and the transactions open.
-use Prim.Native.Nat.{ℕ, suc}
+use Prim.Native.Nat.{ℕ}
 use lib.ListN.{drop}
 use Rattle.event.specs.declared.Event.{Event}
 use Rattle.event.specs.declared.Interval.the-variants.{None}
 use Rattle.event.specs.declared.Check.{Check}
-use Rattle.event.specs.declared.Check.the-variants.{Passed, Refused as Breaks}
 use Rattle.history.specs.View.{View}
-use Rattle.history.specs.Transaction.{depthAfter}
-use Rattle.history.specs.Refused.{limitsBy, firstBroken, refusalBy}
-use Rattle.limits.specs.declared.Taken.{Taken}
-use Rattle.limits.specs.declared.Taken.the-variants.{Refused, Next}
+use Rattle.history.specs.Refused.{limitsBy, firstBroken}
 
 -- the answers to a judge's questions that give these numbers, and nothing else
 abbrev pub numbersOf : (lines events depth : ℕ) → View
@@ -30,11 +26,3 @@ numbersOf lines events depth =
 -- the limits that do not ask for an event's ranges: 10, 11 and 12
 abbrev pub stateCheck : (events depth : ℕ) → Event → Check
 stateCheck events depth e = firstBroken (drop 2 (limitsBy (numbersOf 0 events depth) e))
-
--- the numbers after an event that the check of the limits passes, or its refusal
-abbrev pub takenFor : Check → (events depth : ℕ) → Event → Taken
-takenFor Passed events depth e = Next (suc events) (depthAfter e depth)
-takenFor (Breaks x) events depth e = Refused x
-
-unfoldable pub takenBy : (lines events depth : ℕ) → Event → Taken
-takenBy lines events depth e = takenFor (refusalBy (numbersOf lines events depth) e) events depth e

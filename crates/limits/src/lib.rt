@@ -1,21 +1,13 @@
-// The limits 8 to 12 on an event that is given to a run, and the numbers of the run that they ask for.
+// The limits 8 to 12 on an event that is given to a run, by the numbers of the run that they ask for.
 use event::Check;
 use event::Event;
 use event::Refusal;
 use event::window;
 ghost use mathlib.Core.Path.{_≡_};
-ghost use mathlib.Core.Bool.{cond, false, _&&_};
+ghost use mathlib.Core.Bool.{cond};
 ghost use lib.Dec.{eqb, leb};
-ghost use Rattle.history.specs.History.{begins};
-ghost use Rattle.history.specs.Refused.{mostDepth, asksOpen, refusalBy};
-ghost use Rattle.history.specs.Transaction.{depthAfter};
-ghost use Rattle.limits.specs.Limits.{numbersOf, stateCheck, takenBy};
-
-// An event given to the two numbers that the limits ask for and that events change: the refusal, or the numbers after it.
-pub enum Taken {
-    Refused(Refusal),
-    Next { events: u16, depth: u16 },
-}
+ghost use Rattle.history.specs.Refused.{mostDepth, refusalBy};
+ghost use Rattle.limits.specs.Limits.{numbersOf, stateCheck};
 
 // The limit 11: a log or an end asks for an open transaction.
 fn check_open(depth: u16) -> Check
@@ -66,36 +58,5 @@ pub fn check_event(lines: u16, events: u16, depth: u16, e: Event) -> Check
     match window::check_ranges(lines, e) {
         Check::Refused(x) => Check::Refused(x),
         Check::Passed => check_state(events, depth, e),
-    }
-}
-
-// The transactions open after an event that neither 11 nor 12 refuses.
-fn depth_after(depth: u16, e: Event) -> u16
-    requires { ⌜ asksOpen e && eqb depth 0 ≡ false ⌝ }
-    requires { ⌜ begins e && leb mostDepth depth ≡ false ⌝ }
-    ensures { λ r. ⌜ r ≡ depthAfter e depth ⌝ }
-{
-    match e {
-        Event::Begin => depth + 1,
-        Event::End => depth - 1,
-        Event::Store(_) => depth,
-        Event::WriteBack(_) => depth,
-        Event::Fence => depth,
-        Event::Log(_) => depth,
-        Event::Persisted(_) => depth,
-        Event::Ordered(_, _) => depth,
-    }
-}
-
-// The numbers after an event that no limit refuses.
-pub fn take_event(lines: u16, events: u16, depth: u16, e: Event) -> Taken
-    ensures { λ t. ⌜ t ≡ takenBy lines events depth e ⌝ }
-{
-    match check_event(lines, events, depth, e) {
-        Check::Refused(x) => Taken::Refused(x),
-        Check::Passed => Taken::Next {
-            events: events + 1,
-            depth: depth_after(depth, e),
-        },
     }
 }

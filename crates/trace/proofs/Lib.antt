@@ -5,6 +5,5 @@ pub mod Lines  -- the check of a line count
 pub mod FileLimits  -- the limits 1 to 5 one after another
 pub mod FirstBytes  -- a record is read from its first 12 bytes
 pub mod RecordsNext  -- the first record of a part, and the others
-pub mod OnNumbers  -- the records checked on the numbers that the limits ask for
 pub mod ReadBack  -- a trace laid out as its parts is read as them
 pub mod KnownBytes  -- a trace that is opened is laid out as its parts

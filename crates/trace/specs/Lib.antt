@@ -3,4 +3,3 @@ pub mod Trailer  -- the trailer, and the limits 1 to 5
 pub mod Records  -- the records and their events
 pub mod Checked  -- records refused one after another, and the closing
 pub mod Layout  -- a trace as its parts lie
-pub mod Numbers  -- a record given to the numbers that the limits ask for

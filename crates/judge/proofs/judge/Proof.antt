@@ -1,14 +1,18 @@
--- `judge::judge` meets its contract: the trailer, the area and the records are checked in their order, and the pass over the records of
--- a trace that nothing refuses leaves its totals and its findings. Assumes nothing.
-use mathlib.Core.Path.{_≡_}
+-- `judge::judge` meets its contract: the trailer and the area are checked in their order, and then the records decide.
+-- Assumes nothing.
 use borrow.Author.Needs.{needs}
+use Rattle.judge.proofs.judge.Statement.{statement}
+use Rattle.judge.proofs.judge.Tie as tie
+use mathlib.Core.Path.{_≡_, _∙_}
+use mathlib.Core.List.{List}
+use Prim.Native.Nat.{ℕ}
+use native.Mathlib.Omega.{arith}
+use lib.ListN.{replicate}
 use Rattle.event.proofs.Laws.{equal-by}
 use Rattle.trace.specs.declared.Opened.the-variants.{Known}
 use Rattle.trace.specs.Trailer.{openedOf}
-use Rattle.judge.proofs.Order.{refused-trailer, refused-area}
-use Rattle.judge.proofs.Outcome.{rejected, refused-record, accepted-trace}
-use Rattle.judge.proofs.judge.Statement.{statement}
-use Rattle.judge.proofs.judge.Tie as tie
+use Rattle.judge.proofs.Order.{refused-trailer, refused-area, records-fit}
+use Rattle.judge.proofs.Outcome.{rejected, judged-trace}
 
 -- what the judge is given
 abbrev start : (c : tie.After-t) → tie.Start
@@ -42,47 +46,52 @@ returns c =
 part-requires : tie.Need-part-requires
 part-requires c κs = search needs
 
-check-records-requires : tie.Need-check-records-requires
-check-records-requires c κs = search needs
+slice-aggregate-judge-by : tie.Need-slice-aggregate-judge-by
+slice-aggregate-judge-by c = search needs
 
-enum-known-refusal : tie.Need-enum-known-refusal
-enum-known-refusal c = search needs
-
-enum-told : tie.Need-enum-told
-enum-told c = search needs
-
-judge-records-requires : tie.Need-judge-records-requires
-judge-records-requires c κs = search needs
-
-returns-2 : tie.Need-returns-2
-returns-2 c =
-    let o = c .before .before .before in
-    let k = o .before .before .before .args in
-    rejected (k .trace .now) (k .area .now) (refused-trailer (k .trace .now) (k .area .now) (equal-by (o .«open» .ensures) (c .before .x .given .1)))
-
-returns-3 : tie.Need-returns-3
-returns-3 c =
-    let r = c .before .before .before in
-    let i = r .before .before in
-    let o = i .before .before .before in
-    let k = start o .args in
-    rejected (k .trace .now) (k .area .now)
-    (refused-record (k .trace .now) (k .area .now) (known o) (i .if1 .left) (r .before .part .ensures) (r .check-records .ensures)
-    (c .before .refusal .given .1))
+judge-by-requires : tie.Need-judge-by-requires
+judge-by-requires c κs = search needs
 
 same-length : tie.Need-same-length
 same-length c = search needs
 
+returns-2 : tie.Need-returns-2
+returns-2 c =
+    let i = c .before .before .before .before .before .before .before .before .before in
+    let w = i .before .before .before in
+    let k = start w .args in
+    let j = c .before .before .before .judge-by .ensures in
+    let t = judged-trace (k .trace .now) (k .area .now) (known w) (i .if1 .left) (c .before .before .before .before .before .before .before .before .part .ensures) (replicate 4080 0) (omega arith) in
+    (j .0 ∙ t .0, j .1 .1 ∙ t .1)
+
+slice-aggregate-judge-by-2 : tie.Need-slice-aggregate-judge-by-2
+slice-aggregate-judge-by-2 c = search needs
+
+judge-by-requires-2 : tie.Need-judge-by-requires-2
+judge-by-requires-2 c κs =
+    let w = c .before .before .before .before .before .before .before .before in
+    let k = start w .args in
+    let fits = records-fit (k .trace .now) (k .area .now) (known w) in
+    (omega (arith, fits), omega arith)
+
+returns-3 : tie.Need-returns-3
+returns-3 c =
+    let o = c .before .before .before in
+    let k = o .before .before .before .args in
+    rejected (k .trace .now) (k .area .now) (refused-trailer (k .trace .now) (k .area .now) (equal-by (o .«open» .ensures) (c .before .x .given .1)))
+
+same-length-2 : tie.Need-same-length-2
+same-length-2 c = search needs
+
 returns-4 : tie.Need-returns-4
 returns-4 c =
-    let j = c .before .before in
-    let e = j .before .before in
-    let r = e .before .before in
-    let i = r .before .before in
-    let o = i .before .before .before in
-    let k = start o .args in
-    accepted-trace (k .trace .now) (k .area .now) (known o) (i .if1 .left) (r .before .part .ensures) (r .check-records .ensures)
-    (e .enum-told .given .1) (j .judge-records .ensures .0) (j .judge-records .ensures .1)
+    let i = c .before .before .before .before .before .before .before .before .before in
+    let w = i .before .before .before in
+    let k = start w .args in
+    let j = c .before .before .before .judge-by2 .ensures in
+    let fits = records-fit (k .trace .now) (k .area .now) (known w) in
+    let t = judged-trace (k .trace .now) (k .area .now) (known w) (i .if1 .left) (c .before .before .before .before .before .before .before .before .part .ensures) (replicate 65520 0) (omega (arith, fits)) in
+    (j .0 ∙ t .0, j .1 .1 ∙ t .1)
 
 pub judge-spec : {M : Type 1} → statement M
 judge-spec =
@@ -95,11 +104,12 @@ judge-spec =
     mul-if1
     returns
     part-requires
-    check-records-requires
-    enum-known-refusal
-    enum-told
-    judge-records-requires
-    returns-2
-    returns-3
+    slice-aggregate-judge-by
+    judge-by-requires
     same-length
+    returns-2
+    slice-aggregate-judge-by-2
+    judge-by-requires-2
+    returns-3
+    same-length-2
     returns-4)

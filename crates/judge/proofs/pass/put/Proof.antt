@@ -1,4 +1,4 @@
--- `judge::pass::put` meets its contract. The loop's invariant: the first bytes stand in the area, as many as were put. The measure is
+-- `judge::pass::put` meets its contract. The loop's invariant: the first bytes stand in the buffer, as many as were put. The measure is
 -- how many are left. Assumes nothing.
 use mathlib.Core.Path.{_≡_, _∙_}
 use Prim.Native.Nat.{_≤_, _-_}
@@ -11,22 +11,22 @@ use Rattle.judge.proofs.pass.put.Statement.{statement}
 use Rattle.judge.proofs.pass.put.Tie as tie
 
 abbrev Inv-loop : tie.InvT-loop
-Inv-loop area₀ at bytes i₀ area i = (i ≤ 12) × (length area ≡ length area₀) × (area ≡ paste area₀ at bytes i)
+Inv-loop buffer₀ at bytes i₀ buffer i = (i ≤ 12) × (length buffer ≡ length buffer₀) × (buffer ≡ paste buffer₀ at bytes i)
 
 abbrev μ-loop : tie.MeasureT-loop
-μ-loop area₀ at bytes i₀ area i = 12 - i
+μ-loop buffer₀ at bytes i₀ buffer i = 12 - i
 
 loop-holds : tie.Need-loop-holds Inv-loop μ-loop
-loop-holds c = let k = c .args in (omega arith, omega arith, paste-zero (k .area .now) (k .at) (k .t3))
+loop-holds c = let k = c .args in (omega arith, omega arith, paste-zero (k .buffer .now) (k .at) (k .t3))
 
-array-read-area : tie.Need-array-read-area Inv-loop μ-loop
-array-read-area c = search needs
+array-read-buffer : tie.Need-array-read-buffer Inv-loop μ-loop
+array-read-buffer c = search needs
 
-add-area : tie.Need-add-area Inv-loop μ-loop
-add-area c = search needs
+add-buffer : tie.Need-add-buffer Inv-loop μ-loop
+add-buffer c = search needs
 
-slice-write-area : tie.Need-slice-write-area Inv-loop μ-loop
-slice-write-area c = search needs
+slice-write-buffer : tie.Need-slice-write-buffer Inv-loop μ-loop
+slice-write-buffer c = search needs
 
 add-i : tie.Need-add-i Inv-loop μ-loop
 add-i c = search needs
@@ -38,7 +38,7 @@ loop-again : tie.Need-loop-again Inv-loop μ-loop
 loop-again c =
     let k = c .before .before .args in
     let l = c .before .loop in
-    (omega arith, simp length-set (l .inv .1), put-more (k .area .now) (k .at) (k .t3) (l .i) (l .inv .2) (omega arith) (omega arith))
+    (omega arith, simp length-set (l .inv .1), put-more (k .buffer .now) (k .at) (k .t3) (l .i) (l .inv .2) (omega arith) (omega arith))
 
 same-length : tie.Need-same-length Inv-loop μ-loop
 same-length c = search needs
@@ -47,7 +47,7 @@ returns : tie.Need-returns Inv-loop μ-loop
 returns c =
     let k = c .before .before .args in
     let all : c .before .loop .i ≡ length (k .t3) = omega arith in
-    rw all at (c .before .loop .inv .2) ∙ put-all (k .area .now) (k .at) (k .t3)
+    rw all at (c .before .loop .inv .2) ∙ put-all (k .buffer .now) (k .at) (k .t3)
 
 pub put-spec : {M : Type 1} → statement M
 put-spec =
@@ -56,9 +56,9 @@ put-spec =
     Inv-loop
     μ-loop
     loop-holds
-    array-read-area
-    add-area
-    slice-write-area
+    array-read-buffer
+    add-buffer
+    slice-write-buffer
     add-i
     loop-less
     loop-again
