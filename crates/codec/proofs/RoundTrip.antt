@@ -17,7 +17,7 @@ use Rattle.event.specs.declared.Parsed.the-variants.{Record, Refused}
 use Rattle.event.specs.declared.Refusal.the-variants.{UnknownKind, FieldSet}
 use Rattle.event.specs.Numbers.{kindOf}
 use Rattle.event.specs.Window.{rangesOf}
-use Rattle.codec.specs.Codec.{u16At, u16Bytes, rangeAt, isKind, usesA, usesB, isZero, isClear, eventOf, parsed, zeroRange, rangeBytes, recordBytes}
+use Rattle.codec.specs.Codec.{u16At, u16Bytes, rangeAt, isKind, usesA, usesB, isZero, isClear, eventOf, parsed, padded, zeroRange, rangeBytes, recordBytes}
 use Rattle.event.proofs.Bools.{contradiction, and-left, and-right}
 use Rattle.codec.proofs.Meaning.{kind-of-event, u16-round-trip}
 
@@ -89,9 +89,7 @@ bytes kind clear a b site = kind ∷ clear ∷ rangeBytes a ++ rangeBytes b ++ u
 
 -- the first 12 bytes of what is accepted are the bytes of the record that is read
 pub accepted-bytes : (s : List ℕ) (e : Event) (site : ℕ) → ((i : ℕ) → getD s i 0 < 256) → parsed s ≡ Record (record { event = e; site = site }) →
-    recordBytes e site ≡
-    getD s 0 0 ∷ getD s 1 0 ∷ getD s 2 0 ∷ getD s 3 0 ∷ getD s 4 0 ∷ getD s 5 0 ∷
-    getD s 6 0 ∷ getD s 7 0 ∷ getD s 8 0 ∷ getD s 9 0 ∷ getD s 10 0 ∷ getD s 11 0 ∷ []
+    recordBytes e site ≡ padded 12 s
 accepted-bytes s e site small k = (λ i. bytes (kind i) (clear i) (first i) (second i) (x .from i)) ∙ (λ i. laid i)
   where
     x : ReadFrom s e site
@@ -121,7 +119,5 @@ accepted-bytes s e site small k = (λ i. bytes (kind i) (clear i) (first i) (sec
     pair : (i : ℕ) → u16Bytes (u16At s i) ≡ getD s i 0 ∷ getD s (i + 1) 0 ∷ []
     pair i = u16-bytes (getD s i 0) (getD s (i + 1) 0) (small i)
 
-    laid : bytes (getD s 0 0) (getD s 1 0) (rangeAt s 2) (rangeAt s 6) (u16At s 10) ≡
-        getD s 0 0 ∷ getD s 1 0 ∷ getD s 2 0 ∷ getD s 3 0 ∷ getD s 4 0 ∷ getD s 5 0 ∷
-        getD s 6 0 ∷ getD s 7 0 ∷ getD s 8 0 ∷ getD s 9 0 ∷ getD s 10 0 ∷ getD s 11 0 ∷ []
+    laid : bytes (getD s 0 0) (getD s 1 0) (rangeAt s 2) (rangeAt s 6) (u16At s 10) ≡ padded 12 s
     laid i = getD s 0 0 ∷ getD s 1 0 ∷ (pair 2 i ++ pair 4 i) ++ (pair 6 i ++ pair 8 i) ++ pair 10 i

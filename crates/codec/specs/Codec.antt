@@ -1,7 +1,7 @@
 -- The bytes of a record and of a finding, 12 each. Numbers are least significant byte first.
 use mathlib.Core.Bool.{Bool, cond, not, _&&_, _||_}
 use mathlib.Core.List.{List, [], _∷_, _++_}
-use Prim.Native.Nat.{ℕ, _+_, _*_, _/_, _%_}
+use Prim.Native.Nat.{ℕ, zero, suc, _+_, _*_, _/_, _%_}
 use lib.Dec.{leb, eqb}
 use lib.ListN.{getD}
 use Rattle.event.specs.declared.Range.{Range}
@@ -65,6 +65,11 @@ parsed s =
     (Record (record { event = eventOf kind (rangeAt s 2) (rangeAt s 6); site = u16At s 10 }))
     (Refused FieldSet))
     (Refused UnknownKind)
+
+-- the first n bytes; bytes past the end count as 0
+abbrev pub padded : ℕ → List ℕ → List ℕ
+padded zero s = []
+padded (suc n) s = padded n s ++ getD s n 0 ∷ []
 
 -- a u16 as two bytes
 abbrev pub u16Bytes : ℕ → List ℕ

@@ -9,9 +9,9 @@ use event::Refusal;
 use event::numbers;
 ghost use mathlib.Core.Path.{_≡_};
 ghost use mathlib.Core.Bool.{_||_};
-ghost use Prim.Native.Nat.{_+_, _*_};
-ghost use lib.ListN.{getD};
-ghost use Rattle.codec.specs.Codec.{u16At, rangeAt, isKind, usesA, usesB, isZero, isClear, eventOf, parsed, findingBytes, fieldsAt};
+ghost use Prim.Native.Nat.{_+_, _*_, _≤_};
+ghost use lib.ListN.{length, getD};
+ghost use Rattle.codec.specs.Codec.{u16At, rangeAt, isKind, usesA, usesB, isZero, isClear, eventOf, parsed, padded, findingBytes, fieldsAt};
 
 // The byte at a place, 0 past the end.
 pub fn byte_at(s: &[u8], at: usize) -> u8
@@ -40,14 +40,22 @@ pub fn u16_at(s: &[u8], at: usize) -> u16
     }
 }
 
-// The range at a place of a record.
-fn range_at(s: &[u8], at: u8) -> Range
+// The u16 at a place, both of whose bytes are there.
+fn u16_in(s: &[u8], at: usize) -> u16
+    requires { ⌜ at + 2 ≤ length (now s) ⌝ }
+    ensures { λ r. ⌜ r ≡ u16At (now (s .entry)) at ⌝ }
+{
+    joined(s[at], s[at + 1])
+}
+
+// The range at a place, all of whose bytes are there.
+fn range_in(s: &[u8], at: usize) -> Range
+    requires { ⌜ at + 4 ≤ length (now s) ⌝ }
     ensures { λ r. ⌜ r ≡ rangeAt (now (s .entry)) at ⌝ }
 {
-    let i = at as usize;
     Range {
-        address: u16_at(s, i),
-        length: u16_at(s, i + 2),
+        address: u16_in(s, at),
+        length: u16_in(s, at + 2),
     }
 }
 
@@ -109,23 +117,48 @@ fn event_of(kind: u8, a: Range, b: Range) -> Event
     }
 }
 
-// The record in the first 12 bytes of a slice, or the refusal 6 or 7. Bytes past the end count as 0.
-pub fn read_record(s: &[u8]) -> Parsed
+// The first 12 bytes of a slice, 0 past its end.
+fn padded(s: &[u8]) -> [u8; 12]
+    ensures { λ r. ⌜ r ≡ padded 12 (now (s .entry)) ⌝ }
+{
+    let mut t = [0u8; 12];
+    let mut i = 0;
+    while i < 12 {
+        t[i] = byte_at(s, i);
+        i += 1;
+    }
+    t
+}
+
+// The record in 12 bytes, or the refusal 6 or 7.
+fn read_whole(s: &[u8]) -> Parsed
+    requires { ⌜ 12 ≤ length (now s) ⌝ }
     ensures { λ r. ⌜ r ≡ parsed (now (s .entry)) ⌝ }
 {
-    let kind = byte_at(s, 0);
+    let kind = s[0];
     if !is_kind(kind) {
         return Parsed::Refused(Refusal::UnknownKind);
     }
-    let a = range_at(s, 2);
-    let b = range_at(s, 6);
-    if !is_clear(kind, byte_at(s, 1), a, b) {
+    let a = range_in(s, 2);
+    let b = range_in(s, 6);
+    if !is_clear(kind, s[1], a, b) {
         return Parsed::Refused(Refusal::FieldSet);
     }
     Parsed::Record(Record {
         event: event_of(kind, a, b),
-        site: u16_at(s, 10),
+        site: u16_in(s, 10),
     })
+}
+
+// The record in the first 12 bytes of a slice, or the refusal 6 or 7. Bytes past the end count as 0.
+pub fn read_record(s: &[u8]) -> Parsed
+    ensures { λ r. ⌜ r ≡ parsed (now (s .entry)) ⌝ }
+{
+    if s.len() < 12 {
+        let t = padded(s);
+        return read_whole(&t);
+    }
+    read_whole(s)
 }
 
 // A finding with its site, as 12 bytes.
