@@ -30,6 +30,31 @@ pub(crate) fn fill_bytes(xs: &mut [u16; 4096], a: Range, x: u16)
     fill(xs, at, n, x);
 }
 
+// A store's bytes: their last store, the epoch at which their intervals open, and no closing epoch.
+pub(crate) fn fill_stored(
+    stored: &mut [u16; 4096],
+    opened: &mut [u16; 4096],
+    closed: &mut [u16; 4096],
+    a: Range,
+    number: u16,
+    epoch: u16,
+)
+    requires { ⌜ rangeEnd a ≤ 4096 ⌝ }
+    ensures { λ _. ⌜ now (stored .exit) ≡ filledBytes number a (now (stored .entry)) ⌝ }
+    ensures { λ _. ⌜ now (opened .exit) ≡ filledBytes epoch a (now (opened .entry)) ⌝ }
+    ensures { λ _. ⌜ now (closed .exit) ≡ filledBytes 0 a (now (closed .entry)) ⌝ }
+{
+    let at = a.address as usize;
+    let n = a.length as usize;
+    let mut i = 0;
+    while i < n {
+        stored[at + i] = number;
+        opened[at + i] = epoch;
+        closed[at + i] = 0;
+        i += 1;
+    }
+}
+
 // The entries of the lines that a range touches become x.
 pub(crate) fn fill_lines(xs: &mut [u16; 64], a: Range, x: u16)
     requires { ⌜ rangeEnd a ≤ 4096 ⌝ }
