@@ -1,5 +1,5 @@
 -- A search from the front, one turn of a loop at a time: what is left of it from a place on, up to an end.
-use mathlib.Core.Path.{_≡_, sym, _∙_, ap}
+use mathlib.Core.Path.{_≡_, sym, _∙_, ap, fun-ext}
 use mathlib.Core.Bool.{Bool, true, false}
 use mathlib.Core.Option.{Option, none, some}
 use Prim.Native.Nat.{ℕ, suc, _+_, _-_, _≤_, _<_}
@@ -7,24 +7,29 @@ use native.Mathlib.Omega.{arith}
 use native.Mathlib.Numerals.{add-one}
 use Rattle.event.specs.declared.Range.{Range}
 use Rattle.event.specs.Window.{rangeEnd}
-use Rattle.history.specs.Found.{lowest, lowestIn, lowestPair, Pair}
+use Rattle.history.specs.Found.{lowest, lowestPair, Pair}
 use Rattle.tables.specs.declared.Search.the-variants.{Nothing, At}
 use Rattle.tables.specs.declared.PairSearch.the-variants.{Nothing as NoPair, At as AtPair}
 use Rattle.tables.specs.Tests.{searched, pairSearched}
+use Rattle.tables.proofs.Searched.{lowest-never}
 
 -- the search over what is left
 abbrev pub left : (ℕ → Bool) → ℕ → ℕ → Option ℕ
 left p end x = lowest p x (end - x)
 
-abbrev pub leftPair : (ℕ → ℕ → Bool) → Range → ℕ → ℕ → Option Pair
-leftPair p a end x = lowestPair p a x (end - x)
+-- the search over pairs, with the partners from `start` up to `stop`
+abbrev pub leftPair : (ℕ → ℕ → Bool) → (start stop end x : ℕ) → Option Pair
+leftPair p start stop end x = lowestPair p (record { address = start; length = stop - start }) x (end - x)
 
 -- at the first place all is left
 pub left-all : (p : ℕ → Bool) (x n : ℕ) → left p (x + n) x ≡ lowest p x n
 left-all p x n = let e : x + n - x ≡ n = omega arith in rw e
 
-pub left-all-pairs : (p : ℕ → ℕ → Bool) (a : Range) (x n : ℕ) → leftPair p a (x + n) x ≡ lowestPair p a x n
-left-all-pairs p a x n = let e : x + n - x ≡ n = omega arith in rw e
+left-all-pairs : (p : ℕ → ℕ → Bool) (a b : Range) → leftPair p (a .address) (rangeEnd a) (rangeEnd b) (b .address) ≡ lowestPair p a (b .address) (b .length)
+left-all-pairs p a b =
+    let partners : a .address + a .length - a .address ≡ a .length = omega arith in
+    let all : b .address + b .length - b .address ≡ b .length = omega arith in
+    rw (partners, all)
 
 -- one less is left after each place
 one-less : (end x : ℕ) → x < end → end - x ≡ suc (end - (x + 1))
@@ -46,18 +51,18 @@ module _ (p : ℕ → Bool) (end : ℕ) where
   unfolding lowest
   left-next x h e = rw (one-less end x h, e, add-one)
 
-module _ (p : ℕ → ℕ → Bool) (a : Range) (end : ℕ) where
-  pub pairs-end : (x : ℕ) → end ≤ x → leftPair p a end x ≡ none
+module _ (p : ℕ → ℕ → Bool) (start stop end : ℕ) where
+  pub pairs-end : (x : ℕ) → end ≤ x → leftPair p start stop end x ≡ none
   unfolding lowestPair
   pairs-end x h = let e : end - x ≡ 0 = omega arith in rw e
 
   -- a kept byte with a partner
-  pub pairs-here : (x y : ℕ) → x < end → lowestIn (p x) a ≡ some y → leftPair p a end x ≡ some (record { kept = x; lost = y })
+  pub pairs-here : (x y : ℕ) → x < end → left (p x) stop start ≡ some y → leftPair p start stop end x ≡ some (record { kept = x; lost = y })
   unfolding lowestPair
   pairs-here x y h e = rw (one-less end x h, e)
 
   -- a kept byte without one is left behind
-  pub pairs-next : (x : ℕ) → x < end → lowestIn (p x) a ≡ none → leftPair p a end (x + 1) ≡ leftPair p a end x
+  pub pairs-next : (x : ℕ) → x < end → left (p x) stop start ≡ none → leftPair p start stop end (x + 1) ≡ leftPair p start stop end x
   unfolding lowestPair
   pairs-next x h e = rw (one-less end x h, e, add-one)
 
@@ -78,23 +83,30 @@ module _ (p : ℕ → Bool) (at n x : ℕ) (same : left p (at + n) x ≡ left p 
   found-nothing h = ap searched (sym (left-end p (at + n) x h) ∙ same ∙ left-all p at n)
 
 -- nested loops over the bytes of b and of a, with the searches over what is left the same as the whole ones
-module _ (p : ℕ → ℕ → Bool) (a b : Range) (x : ℕ) (same : leftPair p a (rangeEnd b) x ≡ leftPair p a (rangeEnd b) (b .address)) where
+module _ (p : ℕ → ℕ → Bool) (a b : Range) (x : ℕ)
+    (same : leftPair p (a .address) (rangeEnd a) (rangeEnd b) x ≡ leftPair p (a .address) (rangeEnd a) (rangeEnd b) (b .address)) where
   -- they are left at a pair that passes
   pub pair-here : (y : ℕ) → left (p x) (rangeEnd a) y ≡ left (p x) (rangeEnd a) (a .address) →
       x < rangeEnd b → y < rangeEnd a → p x y ≡ true → AtPair x y ≡ pairSearched (lowestPair p a (b .address) (b .length))
   unfolding pairSearched
   pair-here y inner h k e =
-      let partner : lowestIn (p x) a ≡ some y = sym (left-all (p x) (a .address) (a .length)) ∙ sym inner ∙ left-here (p x) (rangeEnd a) y k e in
-      ap pairSearched (sym (pairs-here p a (rangeEnd b) x y h partner) ∙ same ∙ left-all-pairs p a (b .address) (b .length))
+      let partner : left (p x) (rangeEnd a) (a .address) ≡ some y = sym inner ∙ left-here (p x) (rangeEnd a) y k e in
+      ap pairSearched (sym (pairs-here p (a .address) (rangeEnd a) (rangeEnd b) x y h partner) ∙ same ∙ left-all-pairs p a b)
 
   -- the outer one goes on where the inner one found nothing
   pub pair-later : (y : ℕ) → left (p x) (rangeEnd a) y ≡ left (p x) (rangeEnd a) (a .address) →
-      x < rangeEnd b → rangeEnd a ≤ y → leftPair p a (rangeEnd b) (x + 1) ≡ leftPair p a (rangeEnd b) (b .address)
-  pair-later y inner h k =
-      let nobody : lowestIn (p x) a ≡ none = sym (left-all (p x) (a .address) (a .length)) ∙ sym inner ∙ left-end (p x) (rangeEnd a) y k in
-      pairs-next p a (rangeEnd b) x h nobody ∙ same
+      x < rangeEnd b → rangeEnd a ≤ y →
+      leftPair p (a .address) (rangeEnd a) (rangeEnd b) (x + 1) ≡ leftPair p (a .address) (rangeEnd a) (rangeEnd b) (b .address)
+  pair-later y inner h k = pairs-next p (a .address) (rangeEnd a) (rangeEnd b) x h (sym inner ∙ left-end (p x) (rangeEnd a) y k) ∙ same
+
+  -- and where the byte of b has no partner
+  pub pair-never : ((y : ℕ) → p x y ≡ false) → x < rangeEnd b →
+      leftPair p (a .address) (rangeEnd a) (rangeEnd b) (x + 1) ≡ leftPair p (a .address) (rangeEnd a) (rangeEnd b) (b .address)
+  pair-never never h =
+      let nobody : p x ≡ (λ y. false) = fun-ext never in
+      pairs-next p (a .address) (rangeEnd a) (rangeEnd b) x h (rw nobody (lowest-never (rangeEnd a - a .address) (a .address))) ∙ same
 
   -- it ends where nothing is left
   pub pair-nothing : rangeEnd b ≤ x → NoPair ≡ pairSearched (lowestPair p a (b .address) (b .length))
   unfolding pairSearched
-  pair-nothing h = ap pairSearched (sym (pairs-end p a (rangeEnd b) x h) ∙ same ∙ left-all-pairs p a (b .address) (b .length))
+  pair-nothing h = ap pairSearched (sym (pairs-end p (a .address) (rangeEnd a) (rangeEnd b) x h) ∙ same ∙ left-all-pairs p a b)

@@ -38,6 +38,15 @@ open-or-later s o (suc k) e = rw (ne-eqb (suc k) 0 (λ z. absurd (omega arith)))
     go true h = sym (le-ltb e (suc k) (leb-true (suc k) e h))
     go false h = sym (lt-ltb e (suc k) (leb-false (suc k) e h))
 
+-- a later store is a store
+pub later-store : (n s : ℕ) → ltb n s ≡ (not (eqb s 0) && ltb n s)
+later-store n zero = le-ltb n 0 (omega arith)
+later-store n (suc s) = rw (ne-eqb (suc s) 0 (λ z. absurd (omega arith)))
+
+-- no pair breaks whose kept byte was never stored to
+pub never-broken : (stored opened closed : List ℕ) (kept : ℕ) → entry stored kept ≡ 0 → (lost : ℕ) → brokenPair stored opened closed kept lost ≡ false
+never-broken stored opened closed kept e lost = rw (eq-eqb (entry stored kept) 0 e)
+
 -- the epoch at which an interval opened
 opened-at : (s o k : ℕ) → openedAt (intervalFrom (suc s) o k) ≡ o
 opened-at s o zero = refl

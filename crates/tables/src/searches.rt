@@ -45,11 +45,11 @@ fn is_broken(kept_store: u16, lost_store: u16, one_line: bool, opened: u16, clos
     if kept_store == 0 {
         return false;
     }
+    if one_line {
+        return kept_store < lost_store; // a later store is no 0
+    }
     if lost_store == 0 {
         return false;
-    }
-    if one_line {
-        return kept_store < lost_store;
     }
     closed == 0 || opened < closed
 }
@@ -76,25 +76,24 @@ pub(crate) fn first_pair(
     let mut found = PairSearch::Nothing;
     let mut kept = b.address as usize;
     let kept_end = kept + (b.length as usize);
-    let lost_end = (a.address as usize) + (a.length as usize);
+    let lost_start = a.address as usize;
+    let lost_end = lost_start + (a.length as usize);
     'kept: while kept < kept_end {
-        let mut lost = a.address as usize;
-        while lost < lost_end {
-            let one_line = kept / 64 == lost / 64;
-            if is_broken(
-                stored[kept],
-                stored[lost],
-                one_line,
-                opened[kept],
-                closed[lost],
-            ) {
-                found = PairSearch::At {
-                    kept: kept as u16,
-                    lost: lost as u16,
-                };
-                break 'kept;
+        let store = stored[kept];
+        if store != 0 {
+            let epoch = opened[kept];
+            let line = kept / 64;
+            let mut lost = lost_start;
+            while lost < lost_end {
+                if is_broken(store, stored[lost], line == lost / 64, epoch, closed[lost]) {
+                    found = PairSearch::At {
+                        kept: kept as u16,
+                        lost: lost as u16,
+                    };
+                    break 'kept;
+                }
+                lost += 1;
             }
-            lost += 1;
         }
         kept += 1;
     }

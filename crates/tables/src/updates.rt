@@ -85,9 +85,7 @@ fn store(
     ensures { λ _. ⌜ now (closed .exit) ≡ filledBytes 0 a (now (closed .entry)) ⌝ }
     ensures { λ _. ⌜ now (written .exit) ≡ filledLines number a (now (written .entry)) ⌝ }
 {
-    writes::fill_bytes(stored, a, number);
-    writes::fill_bytes(opened, a, epoch);
-    writes::fill_bytes(closed, a, 0);
+    writes::fill_stored(stored, opened, closed, a, number, epoch);
     writes::fill_lines(written, a, number);
 }
 

@@ -1,8 +1,9 @@
 // Writes to the tables.
 use event::Range;
 use event::window;
+use std::num;
 ghost use mathlib.Core.Path.{_≡_};
-ghost use Prim.Native.Nat.{_+_, _≤_};
+ghost use Prim.Native.Nat.{_+_, _<_, _≤_};
 ghost use lib.ListN.{length};
 ghost use Rattle.event.specs.Window.{windowBytes, rangeEnd};
 ghost use Rattle.tables.specs.Table.{entry, changed, filled, filledBytes, filledLines};
@@ -30,6 +31,31 @@ pub(crate) fn fill_bytes(xs: &mut [u16; 4096], a: Range, x: u16)
     fill(xs, at, n, x);
 }
 
+// A store's bytes: their last store, the epoch at which their intervals open, and no closing epoch.
+pub(crate) fn fill_stored(
+    stored: &mut [u16; 4096],
+    opened: &mut [u16; 4096],
+    closed: &mut [u16; 4096],
+    a: Range,
+    number: u16,
+    epoch: u16,
+)
+    requires { ⌜ rangeEnd a ≤ 4096 ⌝ }
+    ensures { λ _. ⌜ now (stored .exit) ≡ filledBytes number a (now (stored .entry)) ⌝ }
+    ensures { λ _. ⌜ now (opened .exit) ≡ filledBytes epoch a (now (opened .entry)) ⌝ }
+    ensures { λ _. ⌜ now (closed .exit) ≡ filledBytes 0 a (now (closed .entry)) ⌝ }
+{
+    let at = a.address as usize;
+    let n = a.length as usize;
+    let mut i = 0;
+    while i < n {
+        stored[at + i] = number;
+        opened[at + i] = epoch;
+        closed[at + i] = 0;
+        i += 1;
+    }
+}
+
 // The entries of the lines that a range touches become x.
 pub(crate) fn fill_lines(xs: &mut [u16; 64], a: Range, x: u16)
     requires { ⌜ rangeEnd a ≤ 4096 ⌝ }
@@ -42,20 +68,21 @@ pub(crate) fn fill_lines(xs: &mut [u16; 64], a: Range, x: u16)
 
 // The closing epoch of a byte after a fence that begins an epoch, where its line was last written back at `back`.
 fn closed_now(back: u16, epoch: u16, store: u16, closed: u16) -> u16
+    requires { ⌜ 0 < back ⌝ }
     ensures { λ r. ⌜ r ≡ closedNow back epoch store closed ⌝ }
 {
-    if store == 0 {
-        return closed;
+    // one less than 0, no store, is the largest number and below no other
+    let earlier = num::wrapping_sub_u16(store, 1) < num::wrapping_sub_u16(back, 1);
+    if closed == 0 && earlier {
+        epoch
+    } else {
+        closed
     }
-    if closed != 0 {
-        return closed;
-    }
-    if store < back { epoch } else { closed }
 }
 
 // The bytes of one line after the fence.
 fn close_line(closed: &mut [u16; 4096], stored: &[u16; 4096], at: usize, back: u16, epoch: u16)
-    requires { ⌜ at + 64 ≤ 4096 ⌝ }
+    requires { ⌜ (at + 64 ≤ 4096) × (0 < back) ⌝ }
     ensures { λ _. ⌜ now (closed .exit) ≡ changed (λ b old. closedNow back epoch (entry (now (stored .entry)) b) old) at 64 (now (closed .entry)) ⌝ }
 {
     let mut i = 0;

@@ -1,27 +1,29 @@
 -- `tables::searches::first_pair` meets its contract: the search over what is left is the whole search, for the bytes of A beside one byte
--- of B and for the bytes of B.
+-- of B and for the bytes of B; a byte of B that was never stored to has no partner.
 -- Assumes nothing.
 use mathlib.Core.Path.{_≡_, refl, _∙_}
+use mathlib.Core.Logic.{⊎-elim}
 use Prim.Native.Nat.{_≤_, _-_}
 use native.Mathlib.Omega.{arith}
 use borrow.Author.Needs.{needs}
 use Rattle.event.proofs.Laws.{equal-by}
 use Rattle.tables.specs.Tests.{brokenPair}
-use Rattle.tables.proofs.FromFront.{left, leftPair, left-next, pair-here, pair-later, pair-nothing}
+use Rattle.tables.proofs.Tests.{never-broken}
+use Rattle.tables.proofs.FromFront.{left, leftPair, left-next, pair-here, pair-later, pair-never, pair-nothing}
 use Rattle.tables.proofs.searches.first_pair.Statement.{statement}
 use Rattle.tables.proofs.searches.first_pair.Tie as tie
 
 abbrev Inv-loop : tie.InvT-loop
-Inv-loop stored opened closed a found₀ kept kept-end lost-end lost₀ found lost = (lost₀ ≤ lost) × (lost ≤ lost-end) × (found ≡ found₀) × (left (brokenPair stored opened closed kept) lost-end lost ≡ left (brokenPair stored opened closed kept) lost-end lost₀)
+Inv-loop stored opened closed found₀ kept kept-end lost-start lost-end store epoch line lost₀ found lost = (lost₀ ≤ lost) × (lost ≤ lost-end) × (found ≡ found₀) × (left (brokenPair stored opened closed kept) lost-end lost ≡ left (brokenPair stored opened closed kept) lost-end lost₀)
 
 abbrev μ-loop : tie.MeasureT-loop
-μ-loop stored opened closed a found₀ kept kept-end lost-end lost₀ found lost = lost-end - lost
+μ-loop stored opened closed found₀ kept kept-end lost-start lost-end store epoch line lost₀ found lost = lost-end - lost
 
 abbrev Inv-kept : tie.InvT-kept
-Inv-kept stored opened closed a found₀ kept₀ kept-end lost-end found kept = (kept₀ ≤ kept) × (kept ≤ kept-end) × (found ≡ found₀) × (leftPair (brokenPair stored opened closed) a kept-end kept ≡ leftPair (brokenPair stored opened closed) a kept-end kept₀)
+Inv-kept stored opened closed found₀ kept₀ kept-end lost-start lost-end found kept = (kept₀ ≤ kept) × (kept ≤ kept-end) × (found ≡ found₀) × (leftPair (brokenPair stored opened closed) lost-start lost-end kept-end kept ≡ leftPair (brokenPair stored opened closed) lost-start lost-end kept-end kept₀)
 
 abbrev μ-kept : tie.MeasureT-kept
-μ-kept stored opened closed a found₀ kept₀ kept-end lost-end found kept = kept-end - kept
+μ-kept stored opened closed found₀ kept₀ kept-end lost-start lost-end found kept = kept-end - kept
 
 cast-kept : tie.Need-cast-kept Inv-loop μ-loop Inv-kept μ-kept
 cast-kept c = omega arith
@@ -32,11 +34,11 @@ cast-kept-end c = omega arith
 add-kept-end : tie.Need-add-kept-end Inv-loop μ-loop Inv-kept μ-kept
 add-kept-end c = omega arith
 
+cast-lost-start : tie.Need-cast-lost-start Inv-loop μ-loop Inv-kept μ-kept
+cast-lost-start c = omega arith
+
 cast-lost-end : tie.Need-cast-lost-end Inv-loop μ-loop Inv-kept μ-kept
 cast-lost-end c = omega arith
-
-cast-lost-end-2 : tie.Need-cast-lost-end-2 Inv-loop μ-loop Inv-kept μ-kept
-cast-lost-end-2 c = omega arith
 
 add-lost-end : tie.Need-add-lost-end Inv-loop μ-loop Inv-kept μ-kept
 add-lost-end c = omega arith
@@ -44,8 +46,17 @@ add-lost-end c = omega arith
 kept-holds : tie.Need-kept-holds Inv-loop μ-loop Inv-kept μ-kept
 kept-holds c = (omega arith, omega arith, refl, refl)
 
-cast-lost : tie.Need-cast-lost Inv-loop μ-loop Inv-kept μ-kept
-cast-lost c = omega arith
+mul-store : tie.Need-mul-store Inv-loop μ-loop Inv-kept μ-kept
+mul-store c = omega arith
+
+element-copy-out-store : tie.Need-element-copy-out-store Inv-loop μ-loop Inv-kept μ-kept
+element-copy-out-store c = omega arith
+
+mul-epoch : tie.Need-mul-epoch Inv-loop μ-loop Inv-kept μ-kept
+mul-epoch c = omega arith
+
+element-copy-out-epoch : tie.Need-element-copy-out-epoch Inv-loop μ-loop Inv-kept μ-kept
+element-copy-out-epoch c = omega arith
 
 loop-holds : tie.Need-loop-holds Inv-loop μ-loop Inv-kept μ-kept
 loop-holds c = (omega arith, omega arith, refl, refl)
@@ -62,26 +73,14 @@ mul-is-broken-2 c = omega arith
 element-copy-out-is-broken-2 : tie.Need-element-copy-out-is-broken-2 Inv-loop μ-loop Inv-kept μ-kept
 element-copy-out-is-broken-2 c = omega arith
 
-mul-is-broken-3 : tie.Need-mul-is-broken-3 Inv-loop μ-loop Inv-kept μ-kept
-mul-is-broken-3 c = omega arith
-
-element-copy-out-is-broken-3 : tie.Need-element-copy-out-is-broken-3 Inv-loop μ-loop Inv-kept μ-kept
-element-copy-out-is-broken-3 c = omega arith
-
-mul-is-broken-4 : tie.Need-mul-is-broken-4 Inv-loop μ-loop Inv-kept μ-kept
-mul-is-broken-4 c = omega arith
-
-element-copy-out-is-broken-4 : tie.Need-element-copy-out-is-broken-4 Inv-loop μ-loop Inv-kept μ-kept
-element-copy-out-is-broken-4 c = omega arith
-
 is-broken-requires : tie.Need-is-broken-requires Inv-loop μ-loop Inv-kept μ-kept
 is-broken-requires c κs = search needs
 
-cast-t33 : tie.Need-cast-t33 Inv-loop μ-loop Inv-kept μ-kept
-cast-t33 c = omega arith
+cast-t36 : tie.Need-cast-t36 Inv-loop μ-loop Inv-kept μ-kept
+cast-t36 c = omega arith
 
-cast-t34 : tie.Need-cast-t34 Inv-loop μ-loop Inv-kept μ-kept
-cast-t34 c = omega arith
+cast-t37 : tie.Need-cast-t37 Inv-loop μ-loop Inv-kept μ-kept
+cast-t37 c = omega arith
 
 add-lost : tie.Need-add-lost Inv-loop μ-loop Inv-kept μ-kept
 add-lost c = omega arith
@@ -90,7 +89,7 @@ loop-less : tie.Need-loop-less Inv-loop μ-loop Inv-kept μ-kept
 loop-less c = omega arith
 
 loop-again : tie.Need-loop-again Inv-loop μ-loop Inv-kept μ-kept
-loop-again c = let l = c .before .before .before .before .before .before .before in let k = l .before .before .before in (omega arith, omega arith, l .loop .inv .2, left-next _ _ _ (omega arith) (equal-by (c .before .is-broken .ensures) (c .if1 .left)) ∙ l .loop .inv .3)
+loop-again c = let l = c .before .before .before .before .before in (omega arith, omega arith, l .loop .inv .2, left-next _ _ _ (omega arith) (equal-by (c .before .is-broken .ensures) (c .if2 .left)) ∙ l .loop .inv .3)
 
 add-kept : tie.Need-add-kept Inv-loop μ-loop Inv-kept μ-kept
 add-kept c = omega arith
@@ -99,13 +98,13 @@ kept-less : tie.Need-kept-less Inv-loop μ-loop Inv-kept μ-kept
 kept-less c = omega arith
 
 kept-again : tie.Need-kept-again Inv-loop μ-loop Inv-kept μ-kept
-kept-again c = let l = c .before in let k = l .before .before .before in let a = k .before .before .before .before .before .args in (omega arith, omega arith, l .loop .inv .2 ∙ k .kept .inv .2, pair-later _ (a .a) (a .b) _ (k .kept .inv .3) _ (l .loop .inv .3) (omega arith) (omega arith))
+kept-again c = let k = c .before .before .before in let a = k .before .before .before .before .before .args in ⊎-elim (λ w. (omega arith, omega arith, w .4 ∙ w .2 .inv .2 ∙ k .kept .inv .2, pair-later _ (a .a) (a .b) _ (k .kept .inv .3) _ (w .2 .inv .3) (omega arith) (omega arith))) (λ w. (omega arith, omega arith, w .1 ∙ k .kept .inv .2, pair-never _ (a .a) (a .b) _ (k .kept .inv .3) (never-broken (a .stored .now) (a .opened .now) (a .closed .now) (k .kept .kept) (w .0 .left)) (omega arith))) (c .if1 .came)
 
 returns : tie.Need-returns Inv-loop μ-loop Inv-kept μ-kept
 returns c = let k = c .before in let a = k .before .before .before .before .before .args in k .kept .inv .2 ∙ pair-nothing _ (a .a) (a .b) _ (k .kept .inv .3) (omega arith)
 
 returns-2 : tie.Need-returns-2 Inv-loop μ-loop Inv-kept μ-kept
-returns-2 c = let l = c .before .before .before .before .before .before .before in let k = l .before .before .before in let a = k .before .before .before .before .before .args in pair-here _ (a .a) (a .b) _ (k .kept .inv .3) _ (l .loop .inv .3) (omega arith) (omega arith) (equal-by (c .before .is-broken .ensures) (c .if1 .taken))
+returns-2 c = let l = c .before .before .before .before .before in let k = l .before .before .before .before .before in let a = k .before .before .before .before .before .args in pair-here _ (a .a) (a .b) _ (k .kept .inv .3) _ (l .loop .inv .3) (omega arith) (omega arith) (equal-by (c .before .is-broken .ensures) (c .if2 .taken))
 
 pub first-pair-spec : {M : Type 1} → statement M
 first-pair-spec =
@@ -118,23 +117,22 @@ first-pair-spec =
     cast-kept
     cast-kept-end
     add-kept-end
+    cast-lost-start
     cast-lost-end
-    cast-lost-end-2
     add-lost-end
     kept-holds
-    cast-lost
+    mul-store
+    element-copy-out-store
+    mul-epoch
+    element-copy-out-epoch
     loop-holds
     mul-is-broken
     element-copy-out-is-broken
     mul-is-broken-2
     element-copy-out-is-broken-2
-    mul-is-broken-3
-    element-copy-out-is-broken-3
-    mul-is-broken-4
-    element-copy-out-is-broken-4
     is-broken-requires
-    cast-t33
-    cast-t34
+    cast-t36
+    cast-t37
     add-lost
     loop-less
     loop-again

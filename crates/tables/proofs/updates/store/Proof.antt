@@ -4,27 +4,14 @@ use borrow.Author.Needs.{needs}
 use Rattle.tables.proofs.updates.store.Statement.{statement}
 use Rattle.tables.proofs.updates.store.Tie as tie
 
-fill-bytes-requires : tie.Need-fill-bytes-requires
-fill-bytes-requires c κs = search needs
-
-fill-bytes-requires-2 : tie.Need-fill-bytes-requires-2
-fill-bytes-requires-2 c κs = search needs
-
-fill-bytes-requires-3 : tie.Need-fill-bytes-requires-3
-fill-bytes-requires-3 c κs = search needs
+fill-stored-requires : tie.Need-fill-stored-requires
+fill-stored-requires c κs = search needs
 
 fill-lines-requires : tie.Need-fill-lines-requires
 fill-lines-requires c κs = search needs
 
 returns : tie.Need-returns
-returns c = let k = c .before .before in (k .before .before .before .before .fill-bytes .ensures, (k .before .before .fill-bytes2 .ensures, (k .fill-bytes3 .ensures, c .fill-lines .ensures)))
+returns c = let t = c .before .before .fill-stored .ensures in (t .0, (t .1 .0, (t .1 .1, c .fill-lines .ensures)))
 
 pub store-spec : {M : Type 1} → statement M
-store-spec =
-    tie.close
-    (tie.spec
-    fill-bytes-requires
-    fill-bytes-requires-2
-    fill-bytes-requires-3
-    fill-lines-requires
-    returns)
+store-spec = tie.close (tie.spec fill-stored-requires fill-lines-requires returns)

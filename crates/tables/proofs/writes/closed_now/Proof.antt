@@ -1,20 +1,24 @@
 -- `tables::writes::closed_now` meets its contract: each way out goes by the tests that led there.
 -- Assumes nothing.
-use borrow.Author.Tests.{eq-eqb, ne-eqb, lt-ltb, le-ltb}
+use mathlib.Core.Logic.{⊎-elim}
+use native.Mathlib.Omega.{arith}
+use borrow.Author.Needs.{needs}
+use Rattle.tables.proofs.ClosedNow.{closed-before, closes-now, closes-later}
 use Rattle.tables.proofs.writes.closed_now.Statement.{statement}
 use Rattle.tables.proofs.writes.closed_now.Tie as tie
 
+wrapping-sub-u16-requires : tie.Need-wrapping-sub-u16-requires
+wrapping-sub-u16-requires c κs = search needs
+
+wrapping-sub-u16-requires-2 : tie.Need-wrapping-sub-u16-requires-2
+wrapping-sub-u16-requires-2 c κs = search needs
+
 returns : tie.Need-returns
-returns c = simp (eq-eqb _ 0 (c .if1 .taken))
+returns c = let w = c .before .before in let s = w .before .before in let a = s .args in closes-now (a .back) (a .epoch) (a .store) (a .closed) (w .before .wrapping-sub-u16 .result) (w .wrapping-sub-u162 .result) (s .pre) (omega arith) (omega arith) (w .before .wrapping-sub-u16 .ensures) (w .wrapping-sub-u162 .ensures) (c .before .if1 .taken) (c .if2 .taken)
 
 returns-2 : tie.Need-returns-2
-returns-2 c = simp (ne-eqb _ 0 (c .before .if1 .left), ne-eqb _ 0 (c .if2 .taken))
-
-returns-3 : tie.Need-returns-3
-returns-3 c = simp (ne-eqb _ 0 (c .before .before .if1 .left), eq-eqb _ 0 (c .before .if2 .left), lt-ltb _ _ (c .if3 .taken))
-
-returns-4 : tie.Need-returns-4
-returns-4 c = simp (ne-eqb _ 0 (c .before .before .if1 .left), eq-eqb _ 0 (c .before .if2 .left), le-ltb _ _ (c .if3 .left))
+returns-2 c = let w = c .before in let s = w .before .before in let a = s .args in ⊎-elim (λ k. closes-later (a .back) (a .epoch) (a .store) (a .closed) (w .before .wrapping-sub-u16 .result) (w .wrapping-sub-u162 .result) (s .pre) (omega arith) (omega arith) (w .before .wrapping-sub-u16 .ensures) (w .wrapping-sub-u162 .ensures) (k .1 .left)) (λ k. closed-before (a .back) (a .epoch) (a .store) (a .closed) (k .left)) (c .if1 .came)
 
 pub closed-now-spec : {M : Type 1} → statement M
-closed-now-spec = tie.close (tie.spec returns returns-2 returns-3 returns-4)
+closed-now-spec =
+    tie.close (tie.spec wrapping-sub-u16-requires wrapping-sub-u16-requires-2 returns returns-2)
