@@ -1,6 +1,7 @@
 -- Laws of tables, of searches over them, and of the outcome of an event.
 pub mod Table  -- a table after a change
 pub mod FromFront  -- a search, one turn of a loop at a time
+pub mod Parts  -- a search, part by part
 pub mod Searched  -- what a search found, by its answer
 pub mod Tests  -- the tests that the code makes are those of the judge
 pub mod Lines  -- the lines of a range within the largest window
