@@ -6,6 +6,7 @@ use mathlib.Core.Option.{Option, none, some}
 use Prim.Native.Nat.{ℕ, zero, suc, _+_, _-_, _*_, _/_, _≤_, _<_}
 use native.Mathlib.Omega.{arith}
 use native.Mathlib.Nat.{zero-add, add-zero}
+use native.Mathlib.Decide.{ℕ-discrete as decEq}
 use lib.Dec.{ltb}
 use Rattle.history.specs.Found.{lowest}
 use Rattle.tables.specs.declared.Test.the-variants.{OpenSince, Open}
@@ -35,7 +36,7 @@ lowest-add p (suc m) n x =
     go true = refl
     go false = refl
 
--- nothing was found
+-- what found nothing is none
 not-found : (found : Option ℕ) → isFound found ≡ false → found ≡ none
 not-found none e = refl
 not-found (some x) e = let z : _≡_ {A = ℕ} 0 1 = cc in absurd (omega arith)
@@ -50,6 +51,18 @@ found-more p at n e k = rw (e, k, lowest-add p n 1 at) (go (lowest p at n) (p (a
     go none true = refl
     go none false = refl
     go (some x) t = refl
+
+-- where nothing is found no place passes
+pub none-there : (p : ℕ → Bool) (x n : ℕ) → isFound (lowest p x n) ≡ false → (k : ℕ) → x ≤ k → k < x + n → p k ≡ false
+unfolding lowest
+none-there p x zero e k a b = absurd (omega arith)
+none-there p x (suc n) e k a b = go (p x) refl e (decEq k x) (none-there p (suc x) n)
+  where
+    go : (t : Bool) → p x ≡ t → isFound (cond t (some x) (lowest p (suc x) n)) ≡ false → Dec (k ≡ x) →
+        (isFound (lowest p (suc x) n) ≡ false → (k : ℕ) → suc x ≤ k → k < suc x + n → p k ≡ false) → p k ≡ false
+    go true h f d rest = let z : _≡_ {A = ℕ} 0 1 = cc in absurd (omega arith)
+    go false h f (yes same) rest = rw same h
+    go false h f (no d) rest = rest f k (omega arith) (omega arith)
 
 -- where nothing passes a test, nothing passes a stronger one
 none-stronger : (p q : ℕ → Bool) → ((b : ℕ) → q b ≡ false → p b ≡ false) → (n x : ℕ) → lowest q x n ≡ none → lowest p x n ≡ none
@@ -96,7 +109,7 @@ module _ (p : ℕ → Bool) (at n x : ℕ) (same : left p (at + n) x ≡ left p 
   pub part-later : (m : ℕ) → x + m ≤ at + n → lowest p x m ≡ none → left p (at + n) (x + m) ≡ left p (at + n) at
   part-later m h e = left-part p (at + n) x m h e ∙ same
 
-  -- the search over what is left after it
+  -- it ends, and what is left is searched
   pub part-last : {s : Search} → s ≡ searched (left p (at + n) x) → s ≡ searched (lowest p at n)
   part-last e = e ∙ ap searched (same ∙ left-all p at n)
 

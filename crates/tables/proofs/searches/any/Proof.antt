@@ -1,7 +1,5 @@
 -- `tables::searches::any` meets its contract: after i turns it has found what is among the first i.
 -- Assumes nothing.
-use Rattle.tables.proofs.searches.any.Statement.{statement}
-use Rattle.tables.proofs.searches.any.Tie as tie
 use mathlib.Core.Path.{_≡_, refl}
 use Prim.Native.Nat.{_≤_, _-_}
 use native.Mathlib.Omega.{arith}
@@ -9,6 +7,8 @@ use borrow.Author.Needs.{needs}
 use Rattle.history.specs.Found.{lowest}
 use Rattle.tables.specs.Tests.{isFound, passing}
 use Rattle.tables.proofs.Parts.{found-more}
+use Rattle.tables.proofs.searches.any.Statement.{statement}
+use Rattle.tables.proofs.searches.any.Tie as tie
 
 abbrev Inv-loop : tie.InvT-loop
 Inv-loop test xs ys at n found₀ i₀ found i = (i ≤ n) × (found ≡ isFound (lowest (passing test xs ys) at i))

@@ -1,12 +1,12 @@
 -- `tables::searches::first` meets its contract: the search from the place after the skip is the whole search.
 -- Assumes nothing.
-use borrow.Author.Needs.{needs}
-use Rattle.tables.proofs.searches.first.Statement.{statement}
-use Rattle.tables.proofs.searches.first.Tie as tie
 use mathlib.Core.Path.{_∙_, ap}
 use native.Mathlib.Omega.{arith}
+use borrow.Author.Needs.{needs}
 use Rattle.tables.specs.Tests.{searched}
 use Rattle.tables.proofs.Parts.{skip-inside, skip-same}
+use Rattle.tables.proofs.searches.first.Statement.{statement}
+use Rattle.tables.proofs.searches.first.Tie as tie
 
 skip-requires : tie.Need-skip-requires
 skip-requires c κs = search needs

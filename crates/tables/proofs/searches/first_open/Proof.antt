@@ -1,7 +1,5 @@
 -- `tables::searches::first_open` meets its contract: the search over what is left is the whole search.
 -- Assumes nothing.
-use Rattle.tables.proofs.searches.first_open.Statement.{statement}
-use Rattle.tables.proofs.searches.first_open.Tie as tie
 use mathlib.Core.Path.{_≡_, refl}
 use mathlib.Core.Logic.{⊎-elim}
 use Prim.Native.Nat.{_≤_, _-_}
@@ -13,6 +11,8 @@ use Rattle.tables.specs.Tests.{passing}
 use Rattle.tables.proofs.FromFront.{left}
 use Rattle.tables.proofs.Parts.{none-open, part-here, part-later, part-last}
 use Rattle.tables.proofs.Searched.{found-none, found-some}
+use Rattle.tables.proofs.searches.first_open.Statement.{statement}
+use Rattle.tables.proofs.searches.first_open.Tie as tie
 
 abbrev Inv-loop : tie.InvT-loop
 Inv-loop event stored closed at n end b₀ b = (at ≤ b) × (b ≤ end) × (left (passing (OpenSince event) stored closed) end b ≡ left (passing (OpenSince event) stored closed) end at)
