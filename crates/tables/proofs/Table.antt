@@ -69,13 +69,13 @@ module _ (f : ℕ → ℕ → ℕ) (at : ℕ) (xs : List ℕ) where
   changed-done i n h k e = let same : i ≡ n = omega arith in rw same at e
 
 -- a change of as many entries as one and then another has
-pub changed-add : (f : ℕ → ℕ → ℕ) (m n : ℕ) (xs : List ℕ) → changed f 0 (m + n) xs ≡ changed f m n (changed f 0 m xs)
+pub changed-add : (f : ℕ → ℕ → ℕ) (at m n : ℕ) (xs : List ℕ) → changed f at (m + n) xs ≡ changed f (at + m) n (changed f at m xs)
 unfolding changed
-changed-add f m zero xs = rw add-zero
-changed-add f m (suc n) xs =
+changed-add f at m zero xs = rw add-zero
+changed-add f at m (suc n) xs =
     let k : m + suc n ≡ suc (m + n) = omega arith in
-    let o : 0 + (m + n) ≡ m + n = omega arith in
-    rw (k, o, changed-add f m n xs, changed-above f 0 xs m (m + n) (omega arith))
+    let o : at + (m + n) ≡ at + m + n = omega arith in
+    rw (k, o, changed-add f at m n xs, changed-above f at xs m (at + m + n) (omega arith))
 
 -- changes that make the same of each entry
 pub changed-same : (f g : ℕ → ℕ → ℕ) (at n : ℕ) (xs : List ℕ) →

@@ -1,8 +1,8 @@
 -- The tests that the code makes on the tables, and the results of its searches.
-use mathlib.Core.Bool.{Bool, cond, not, _&&_, _||_}
+use mathlib.Core.Bool.{Bool, true, false, cond, not, _&&_, _||_}
 use mathlib.Core.List.{List, []}
 use mathlib.Core.Option.{Option, none, some}
-use Prim.Native.Nat.{ℕ}
+use Prim.Native.Nat.{ℕ, zero, suc, _+_}
 use lib.Dec.{ltb, eqb}
 use Rattle.event.specs.declared.Finding.{Finding}
 use Rattle.event.specs.declared.Finding.the-variants.{None, Empty}
@@ -10,7 +10,7 @@ use Rattle.event.specs.Window.{windowBytes, lineOf}
 use Rattle.history.specs.Found.{Pair, lowest, durable}
 use Rattle.tables.specs.declared.Counts.{Counts}
 use Rattle.tables.specs.declared.Test.{Test}
-use Rattle.tables.specs.declared.Test.the-variants.{Since, NotSince, OpenSince, Wasted}
+use Rattle.tables.specs.declared.Test.the-variants.{Since, NotSince, OpenSince, Open, Wasted}
 use Rattle.tables.specs.declared.Search.{Search}
 use Rattle.tables.specs.declared.Search.the-variants.{Nothing, At}
 use Rattle.tables.specs.declared.PairSearch.{PairSearch}
@@ -27,12 +27,23 @@ unfoldable pub pairSearched : Option Pair → PairSearch
 pairSearched none = NoPair
 pairSearched (some p) = AtPair (p .kept) (p .lost)
 
+-- it found something
+abbrev pub isFound : Option ℕ → Bool
+isFound none = false
+isFound (some x) = true
+
+-- the place after the eights in front in which nothing passes, of so many from a place on
+unfoldable pub skipped : (ℕ → Bool) → ℕ → ℕ → ℕ
+skipped p at zero = at
+skipped p at (suc eights) = let rest = skipped p (at + 8) eights in cond (isFound (lowest p at 8)) at rest
+
 -- the entries of a byte or a line in two tables are what the test looks for: an event after this one in the first; none after it;
--- a store after it, and no closing epoch in the second; no store in the first, or none since the last write-back in the second
+-- a store after it, and no closing epoch in the second; no closing epoch; no store in the first, or none since the last write-back in the second
 abbrev pub passesBy : Test → ℕ → ℕ → Bool
 passesBy (Since n) x y = ltb n x
 passesBy (NotSince n) x y = not (ltb n x)
 passesBy (OpenSince n) x y = ltb n x && eqb y 0
+passesBy Open x y = eqb y 0
 passesBy Wasted x y = eqb x 0 || ltb x y
 
 -- the byte or line is so

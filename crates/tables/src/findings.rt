@@ -41,7 +41,7 @@ fn of_back(written: &[u16; 64], backed: &[u16; 64], a: Range) -> Finding
 {
     let at = window::line_of(a.address) as usize;
     let n = window::line_count(a) as usize;
-    match searches::first(Test::Wasted, written, backed, at, n) {
+    match searches::scan(Test::Wasted, written, backed, at, n) {
         Search::Nothing => Finding::None,
         Search::At(l) => {
             let lost = window::line_start(l);
@@ -80,7 +80,7 @@ fn durable(
     requires { ⌜ (counts .events < 65535) × (at + n ≤ 4096) ⌝ }
     ensures { λ r. ⌜ r ≡ durableFrom counts (now (stored .entry)) (now (closed .entry)) begin at n ⌝ }
 {
-    match searches::first(Test::OpenSince(begin), stored, closed, at, n) {
+    match searches::first_open(begin, stored, closed, at, n) {
         Search::Nothing => Finding::Holds,
         Search::At(b) => {
             let i = b as usize;

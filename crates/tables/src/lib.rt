@@ -51,6 +51,7 @@ pub(crate) enum Test {
     Since(u16), // an event after this one
     NotSince(u16), // none after it
     OpenSince(u16), // a store after it, and no closing epoch
+    Open, // no closing epoch
     Wasted, // no store, or none since the last write-back
 }
 

@@ -4,11 +4,11 @@ use crate::Search;
 use crate::Test;
 use event::Range;
 ghost use mathlib.Core.Path.{_≡_};
-ghost use Prim.Native.Nat.{_+_, _≤_};
+ghost use Prim.Native.Nat.{_+_, _/_, _≤_};
 ghost use Rattle.event.specs.Window.{rangeEnd};
 ghost use lib.ListN.{length};
 ghost use Rattle.history.specs.Found.{lowest, lowestPair};
-ghost use Rattle.tables.specs.Tests.{searched, pairSearched, passesBy, passing, isBroken, brokenPair};
+ghost use Rattle.tables.specs.Tests.{searched, pairSearched, isFound, passesBy, passing, skipped, isBroken, brokenPair};
 
 // Whether the entries of a byte or a line in two tables are what the test looks for.
 fn passes(test: Test, x: u16, y: u16) -> bool
@@ -18,12 +18,43 @@ fn passes(test: Test, x: u16, y: u16) -> bool
         Test::Since(n) => n < x,
         Test::NotSince(n) => !(n < x),
         Test::OpenSince(n) => n < x && y == 0,
+        Test::Open => y == 0,
         Test::Wasted => x == 0 || x < y,
     }
 }
 
-// The lowest such byte or line of the n from `at` on.
-pub(crate) fn first(test: Test, xs: &[u16], ys: &[u16], at: usize, n: usize) -> Search
+// Whether one of the n from `at` on is such a byte or line. Every entry is looked at, so that several can be looked at at once.
+pub(crate) fn any(test: Test, xs: &[u16], ys: &[u16], at: usize, n: usize) -> bool
+    requires { ⌜ (at + n ≤ length (now xs)) × (at + n ≤ length (now ys)) ⌝ }
+    ensures { λ r. ⌜ r ≡ isFound (lowest (passing test (now (xs .entry)) (now (ys .entry))) at n) ⌝ }
+{
+    let mut found = false;
+    let mut i = 0;
+    while i < n {
+        found = found | passes(test, xs[at + i], ys[at + i]);
+        i += 1;
+    }
+    found
+}
+
+// The place after the eights in front that have no such byte or line, of the n from `at` on.
+fn skip(test: Test, xs: &[u16], ys: &[u16], at: usize, n: usize) -> usize
+    requires { ⌜ (at + n ≤ 4096) × (at + n ≤ length (now xs)) × (at + n ≤ length (now ys)) ⌝ }
+    ensures { λ r. ⌜ r ≡ skipped (passing test (now (xs .entry)) (now (ys .entry))) at (n / 8) ⌝ }
+{
+    let end = at + n;
+    let mut b = at;
+    while b + 8 <= end {
+        if any(test, xs, ys, b, 8) {
+            return b;
+        }
+        b += 8;
+    }
+    b
+}
+
+// The lowest such byte or line of the n from `at` on, one after another.
+pub(crate) fn scan(test: Test, xs: &[u16], ys: &[u16], at: usize, n: usize) -> Search
     requires { ⌜ (at + n ≤ 4096) × (at + n ≤ length (now xs)) × (at + n ≤ length (now ys)) ⌝ }
     ensures { λ r. ⌜ r ≡ searched (lowest (passing test (now (xs .entry)) (now (ys .entry))) at n) ⌝ }
 {
@@ -36,6 +67,42 @@ pub(crate) fn first(test: Test, xs: &[u16], ys: &[u16], at: usize, n: usize) -> 
         b += 1;
     }
     Search::Nothing
+}
+
+// The lowest such byte or line of the n from `at` on.
+pub(crate) fn first(test: Test, xs: &[u16], ys: &[u16], at: usize, n: usize) -> Search
+    requires { ⌜ (at + n ≤ 4096) × (at + n ≤ length (now xs)) × (at + n ≤ length (now ys)) ⌝ }
+    ensures { λ r. ⌜ r ≡ searched (lowest (passing test (now (xs .entry)) (now (ys .entry))) at n) ⌝ }
+{
+    let b = skip(test, xs, ys, at, n);
+    scan(test, xs, ys, b, at + n - b)
+}
+
+// The lowest of the n bytes from `at` on with a store after an event and no closing epoch. Lines without an open byte are passed over.
+pub(crate) fn first_open(
+    event: u16,
+    stored: &[u16; 4096],
+    closed: &[u16; 4096],
+    at: usize,
+    n: usize,
+) -> Search
+    requires { ⌜ at + n ≤ 4096 ⌝ }
+    ensures { λ r. ⌜ r ≡ searched (lowest (passing (Test.OpenSince event) (now (stored .entry)) (now (closed .entry))) at n) ⌝ }
+{
+    let end = at + n;
+    let mut b = at;
+    while b + 64 <= end {
+        if any(Test::Open, stored, closed, b, 64) {
+            match first(Test::OpenSince(event), stored, closed, b, 64) {
+                Search::Nothing => {}
+                Search::At(x) => {
+                    return Search::At(x);
+                }
+            }
+        }
+        b += 64;
+    }
+    first(Test::OpenSince(event), stored, closed, b, end - b)
 }
 
 // Whether a crash may keep one byte and lose another.

@@ -1,9 +1,11 @@
 // Writes to the tables.
+use crate::Test;
+use crate::searches;
 use event::Range;
 use event::window;
 use std::num;
 ghost use mathlib.Core.Path.{_≡_};
-ghost use Prim.Native.Nat.{_+_, _<_, _≤_};
+ghost use Prim.Native.Nat.{_+_, _-_, _<_, _≤_};
 ghost use lib.ListN.{length};
 ghost use Rattle.event.specs.Window.{windowBytes, rangeEnd};
 ghost use Rattle.tables.specs.Table.{entry, changed, filled, filledBytes, filledLines};
@@ -93,7 +95,35 @@ fn close_line(closed: &mut [u16; 4096], stored: &[u16; 4096], at: usize, back: u
     }
 }
 
-// The bytes of the window after the fence: of each line that was written back since the last fence.
+// The bytes of some lines after the fence: of each that was written back since the last fence.
+fn close_some(
+    closed: &mut [u16; 4096],
+    stored: &[u16; 4096],
+    backed: &[u16; 64],
+    from: usize,
+    to: usize,
+    fence: u16,
+    epoch: u16,
+)
+    requires { ⌜ (from ≤ to) × (to ≤ 64) ⌝ }
+    ensures { λ _. ⌜
+        now (closed .exit) ≡
+        changed (fenced fence epoch (now (stored .entry)) (now (backed .entry))) (windowBytes from) (windowBytes (to - from))
+        (now (closed .entry))
+        ⌝ }
+{
+    let mut i = from;
+    while i < to {
+        let back = backed[i];
+        if fence < back {
+            let at = window::line_start(i as u16) as usize;
+            close_line(closed, stored, at, back, epoch);
+        }
+        i += 1;
+    }
+}
+
+// The bytes of the window after the fence. Eight lines of which none was written back since the last fence are passed over.
 pub(crate) fn close_lines(
     closed: &mut [u16; 4096],
     stored: &[u16; 4096],
@@ -105,14 +135,13 @@ pub(crate) fn close_lines(
     requires { ⌜ lines ≤ 64 ⌝ }
     ensures { λ _. ⌜ now (closed .exit) ≡ changed (fenced fence epoch (now (stored .entry)) (now (backed .entry))) 0 (windowBytes lines) (now (closed .entry)) ⌝ }
 {
-    let mut l: u16 = 0;
-    while l < lines {
-        let i = l as usize;
-        let back = backed[i];
-        if fence < back {
-            let at = window::line_start(l) as usize;
-            close_line(closed, stored, at, back, epoch);
+    let end = lines as usize;
+    let mut i = 0;
+    while i + 8 <= end {
+        if searches::any(Test::Since(fence), backed, backed, i, 8) {
+            close_some(closed, stored, backed, i, i + 8, fence, epoch);
         }
-        l += 1;
+        i += 8;
     }
+    close_some(closed, stored, backed, i, end, fence, epoch);
 }

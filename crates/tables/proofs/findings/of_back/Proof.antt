@@ -18,9 +18,9 @@ use Rattle.tables.proofs.findings.of_back.Statement.{statement}
 use Rattle.tables.proofs.findings.of_back.Tie as tie
 
 -- what the search answered, over the lines of the range
-by-lines : (c : tie.After-first) → let a = c .before .before .before .before .before .args in
-    c .first .result ≡ searched (lowest (passing Wasted (a .written .now) (a .backed .now)) (lineOf (a .a .address)) (lineCount (a .a)))
-by-lines c = let l = c .before .before .before in rw (l .before .line-of .ensures, l .line-count .ensures) at (c .first .ensures)
+by-lines : (c : tie.After-scan) → let a = c .before .before .before .before .before .args in
+    c .scan .result ≡ searched (lowest (passing Wasted (a .written .now) (a .backed .now)) (lineOf (a .a .address)) (lineCount (a .a)))
+by-lines c = let l = c .before .before .before in rw (l .before .line-of .ensures, l .line-count .ensures) at (c .scan .ensures)
 
 -- the function's entry, from where the line that was found is bound
 abbrev start : tie.After-l → tie.Start
@@ -43,8 +43,8 @@ line-count-requires c κs = search needs
 cast-n : tie.Need-cast-n
 cast-n c = search needs
 
-first-requires : tie.Need-first-requires
-first-requires c κs = let k = c .before .before .before .before in let inside = lines-inside (k .args .a) (k .pre) in omega (arith, c .before .before .before .line-of .ensures, c .before .before .line-count .ensures)
+scan-requires : tie.Need-scan-requires
+scan-requires c κs = let k = c .before .before .before .before in let inside = lines-inside (k .args .a) (k .pre) in omega (arith, c .before .before .before .line-of .ensures, c .before .before .line-count .ensures)
 
 enum-told : tie.Need-enum-told
 enum-told c = search needs
@@ -81,7 +81,7 @@ of-back-spec =
     cast-at
     line-count-requires
     cast-n
-    first-requires
+    scan-requires
     enum-told
     enum-known-l
     line-start-requires
