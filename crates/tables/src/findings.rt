@@ -11,15 +11,13 @@ use event::window;
 ghost use mathlib.Core.Path.{_≡_};
 ghost use mathlib.Core.List.{[]};
 ghost use Prim.Native.Nat.{_+_, _<_, _≤_};
-ghost use Rattle.event.specs.declared.Check.the-variants.{Passed};
 ghost use Rattle.event.specs.Window.{rangeEnd};
-ghost use Rattle.history.specs.Refused.{refusalBy};
 ghost use Rattle.history.specs.Found.{findingBy};
-ghost use Rattle.tables.specs.View.{runOf, noCounts, limitsOf, ofRun};
+ghost use Rattle.tables.specs.View.{runOf, noCounts, ofRun};
 ghost use Rattle.tables.specs.Tests.{durableFrom, endedFrom};
 
 // A store: unlogged, where a transaction is open.
-fn of_store(counts: Counts, logged: &[u16; 4096], a: Range) -> Finding
+pub(crate) fn of_store(counts: Counts, logged: &[u16; 4096], a: Range) -> Finding
     requires { ⌜ rangeEnd a ≤ 4096 ⌝ }
     ensures { λ r. ⌜ r ≡ findingBy (ofRun (runOf counts [] (now (logged .entry)) [] [] [] [])) (Event.Store a) ⌝ }
 {
@@ -35,7 +33,7 @@ fn of_store(counts: Counts, logged: &[u16; 4096], a: Range) -> Finding
 }
 
 // A write-back: clean or written twice.
-fn of_back(written: &[u16; 64], backed: &[u16; 64], a: Range) -> Finding
+pub(crate) fn of_back(written: &[u16; 64], backed: &[u16; 64], a: Range) -> Finding
     requires { ⌜ rangeEnd a ≤ 4096 ⌝ }
     ensures { λ r. ⌜ r ≡ findingBy (ofRun (runOf (noCounts 0) [] [] [] [] (now (written .entry)) (now (backed .entry)))) (Event.WriteBack a) ⌝ }
 {
@@ -56,7 +54,7 @@ fn of_back(written: &[u16; 64], backed: &[u16; 64], a: Range) -> Finding
 }
 
 // A log: logged twice.
-fn of_log(counts: Counts, logged: &[u16; 4096], a: Range) -> Finding
+pub(crate) fn of_log(counts: Counts, logged: &[u16; 4096], a: Range) -> Finding
     requires { ⌜ rangeEnd a ≤ 4096 ⌝ }
     ensures { λ r. ⌜ r ≡ findingBy (ofRun (runOf counts [] (now (logged .entry)) [] [] [] [])) (Event.Log a) ⌝ }
 {
@@ -94,7 +92,12 @@ fn durable(
 }
 
 // A persisted: holds or lost.
-fn of_persisted(counts: Counts, stored: &[u16; 4096], closed: &[u16; 4096], a: Range) -> Finding
+pub(crate) fn of_persisted(
+    counts: Counts,
+    stored: &[u16; 4096],
+    closed: &[u16; 4096],
+    a: Range,
+) -> Finding
     requires { ⌜ (counts .events < 65535) × (rangeEnd a ≤ 4096) ⌝ }
     ensures { λ r. ⌜ r ≡ durableFrom counts (now (stored .entry)) (now (closed .entry)) 0 (a .address) (a .length) ⌝ }
 {
@@ -104,7 +107,7 @@ fn of_persisted(counts: Counts, stored: &[u16; 4096], closed: &[u16; 4096], a: R
 }
 
 // An end: none if it is an inner one; else empty, or as a persisted over the bytes stored since the begin.
-fn of_end(counts: Counts, stored: &[u16; 4096], closed: &[u16; 4096]) -> Finding
+pub(crate) fn of_end(counts: Counts, stored: &[u16; 4096], closed: &[u16; 4096]) -> Finding
     requires { ⌜ counts .events < 65535 ⌝ }
     ensures { λ r. ⌜ r ≡ endedFrom counts (now (stored .entry)) (now (closed .entry)) ⌝ }
 {
@@ -119,7 +122,7 @@ fn of_end(counts: Counts, stored: &[u16; 4096], closed: &[u16; 4096]) -> Finding
 }
 
 // An ordered: holds or out of order.
-fn of_ordered(
+pub(crate) fn of_ordered(
     stored: &[u16; 4096],
     opened: &[u16; 4096],
     closed: &[u16; 4096],
@@ -141,38 +144,5 @@ fn of_ordered(
                 store: stored[l],
             }
         }
-    }
-}
-
-// The finding of an event that no limit refuses.
-pub(crate) fn finding_of(
-    counts: Counts,
-    stored: &[u16; 4096],
-    logged: &[u16; 4096],
-    opened: &[u16; 4096],
-    closed: &[u16; 4096],
-    written: &[u16; 64],
-    backed: &[u16; 64],
-    e: Event,
-) -> Finding
-    requires { ⌜ refusalBy (limitsOf counts) e ≡ Passed ⌝ }
-    ensures { λ r. ⌜
-        r ≡
-        findingBy
-        (ofRun
-        (runOf counts (now (stored .entry)) (now (logged .entry)) (now (opened .entry)) (now (closed .entry))
-        (now (written .entry)) (now (backed .entry))))
-        e
-        ⌝ }
-{
-    match e {
-        Event::Store(a) => of_store(counts, logged, a),
-        Event::WriteBack(a) => of_back(written, backed, a),
-        Event::Fence => Finding::None,
-        Event::Begin => Finding::None,
-        Event::Log(a) => of_log(counts, logged, a),
-        Event::End => of_end(counts, stored, closed),
-        Event::Persisted(a) => of_persisted(counts, stored, closed, a),
-        Event::Ordered(a, b) => of_ordered(stored, opened, closed, a, b),
     }
 }

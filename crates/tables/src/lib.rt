@@ -6,9 +6,10 @@ ghost use mathlib.Core.Path.{_≡_};
 ghost use Rattle.tables.specs.View.{noCounts, linesOf, runOf};
 ghost use Rattle.tables.specs.Give.{outcomeOf, giveOf};
 
+mod events; // an accepted event, by its kind
 mod findings; // the finding of each kind of event
 mod searches; // searches over the tables
-mod updates; // the run after an event
+mod updates; // the numbers after an event, and the tables after a store
 mod writes; // writes to the tables
 
 // The numbers of a run. Event numbers start at 1, and 0 stands for none.
@@ -120,21 +121,7 @@ pub fn step(
             }
         }
         Check::Passed => {
-            let finding = findings::finding_of(
-                counts,
-                stored,
-                logged,
-                opened,
-                closed,
-                written,
-                backed,
-                e,
-            );
-            updates::update(counts, stored, logged, opened, closed, written, backed, e);
-            Stepped {
-                answer: Answer::Found(finding),
-                counts: updates::counts_after(counts, e, finding),
-            }
+            events::accept(counts, stored, logged, opened, closed, written, backed, e)
         }
     }
 }

@@ -1,4 +1,4 @@
--- `tables::step` meets its contract: the check, the finding and the changes make up the outcome.
+-- `tables::step` meets its contract: the check of the limits and the accepted event make up the outcome.
 -- Assumes nothing.
 use mathlib.Core.Path.{_≡_}
 use borrow.Author.Needs.{needs}
@@ -41,20 +41,14 @@ enum-known-x c = search needs
 enum-told : tie.Need-enum-told
 enum-told c = search needs
 
-finding-of-requires : tie.Need-finding-of-requires
-finding-of-requires c κs = passes (c .before .before .before .before .before .before)
-
-update-requires : tie.Need-update-requires
-update-requires c κs = passes (c .before .before .before .before .before .before .before .before .before .before .before .before .before)
-
-counts-after-requires : tie.Need-counts-after-requires
-counts-after-requires c κs = passes (c .before .before .before .before .before .before .before .before .before .before .before .before .before .before)
+accept-requires : tie.Need-accept-requires
+accept-requires c κs = passes (c .before .before .before .before .before .before)
 
 returns : tie.Need-returns
 returns c = let w = c .before .before .before in let s = start w in step-refused (entry-run s) (s .args .r) (equal-by (by-limits w) (c .before .x .given .1))
 
 returns-2 : tie.Need-returns-2
-returns-2 c = let u = c .before in let f = u .before .before .before .before .before .before .before in let t = f .before .before .before .before .before .before .before in let s = start (t .before .before) in step-taken (entry-run s) (s .args .r) (passes t) (f .finding-of .ensures) (u .update .ensures) (c .counts-after .ensures)
+returns-2 c = let t = c .before .before .before .before .before .before .before in let s = start (t .before .before) in step-taken (entry-run s) (s .args .r) (passes t) (c .accept .ensures)
 
 pub step-spec : {M : Type 1} → statement M
 step-spec =
@@ -64,8 +58,6 @@ step-spec =
     check-event-requires
     enum-known-x
     enum-told
-    finding-of-requires
-    update-requires
-    counts-after-requires
+    accept-requires
     returns
     returns-2)
