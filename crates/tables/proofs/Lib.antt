@@ -5,5 +5,6 @@ pub mod Searched  -- what a search found, by its answer
 pub mod Tests  -- the tests that the code makes are those of the judge
 pub mod Lines  -- the lines of a range within the largest window
 pub mod FenceLine  -- what a fence does to the bytes of one line
+pub mod EndLine  -- a search of the window, one line at a time
 pub mod Passed  -- the ranges of an event that no limit refuses are within the tables
 pub mod Steps  -- the outcome of an event given, from its parts
