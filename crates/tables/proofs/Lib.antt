@@ -7,6 +7,6 @@ pub mod Tests  -- the tests that the code makes are those of the judge
 pub mod Lines  -- the lines of a range within the largest window
 pub mod ClosedNow  -- the closing epoch of a byte after a fence
 pub mod FenceLines  -- what a fence does to the bytes of some lines
+pub mod EndLine  -- a search of the window, one line at a time
 pub mod Passed  -- the ranges of an event that no limit refuses are within the tables
-pub mod Numbers  -- the numbers of a run after each kind of event
 pub mod Steps  -- the outcome of an event given, from its parts

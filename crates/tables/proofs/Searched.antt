@@ -2,7 +2,7 @@
 use mathlib.Core.Path.{_≡_, refl}
 use mathlib.Core.Bool.{Bool, true, false, cond}
 use mathlib.Core.Option.{Option, none, some}
-use Prim.Native.Nat.{ℕ, zero, suc, _+_, _<_}
+use Prim.Native.Nat.{ℕ, zero, suc, _+_, _≤_, _<_}
 use native.Mathlib.Omega.{arith}
 use Rattle.event.specs.declared.Range.{Range}
 use Rattle.event.specs.Window.{rangeEnd}
@@ -11,7 +11,7 @@ use Rattle.tables.specs.declared.Search.{Search}
 use Rattle.tables.specs.declared.Search.the-variants.{Nothing, At}
 use Rattle.tables.specs.declared.PairSearch.{PairSearch}
 use Rattle.tables.specs.declared.PairSearch.the-variants.{Nothing as NoPair, At as AtPair}
-use Rattle.tables.specs.Tests.{searched, pairSearched}
+use Rattle.tables.specs.Tests.{searched, foundBy, pairSearched}
 
 -- nothing
 pub found-none : (found : Option ℕ) {s : Search} → s ≡ Nothing → s ≡ searched found → found ≡ none
@@ -24,6 +24,12 @@ pub found-some : (found : Option ℕ) {s : Search} {x : ℕ} → s ≡ At x → 
 unfolding searched
 found-some none e f = let z : _≡_ {A = ℕ} 0 1 = cc in absurd (omega arith)
 found-some (some y) e f = cc
+
+-- either, by the answer
+pub found-by : (found : Option ℕ) {s : Search} → s ≡ searched found → foundBy s ≡ found
+unfolding searched
+found-by none e = rw e
+found-by (some x) e = rw e
 
 -- no pair
 pub found-no-pair : (found : Option Pair) {s : PairSearch} → s ≡ NoPair → s ≡ pairSearched found → found ≡ none
@@ -64,8 +70,8 @@ pair-below p a (suc n) x {f} e = go (lowestIn (p x) a) refl e (pair-below p a n 
         let lost : y ≡ f .lost = cc in
         (omega arith, omega (arith, lowest-below (p x) (a .length) (a .address) h))
 
--- a search for what is nowhere
-pub lowest-never : (n x : ℕ) → lowest (λ b. false) x n ≡ none
+-- nothing is found where none passes
+pub lowest-none : (p : ℕ → Bool) (n x : ℕ) → ((k : ℕ) → x ≤ k → k < x + n → p k ≡ false) → lowest p x n ≡ none
 unfolding lowest
-lowest-never zero x = refl
-lowest-never (suc n) x = lowest-never n (suc x)
+lowest-none p zero x h = refl
+lowest-none p (suc n) x h = rw (h x (omega arith) (omega arith)) (lowest-none p n (suc x) (λ k a b. h k (omega arith) (omega arith)))

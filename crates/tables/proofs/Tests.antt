@@ -21,7 +21,7 @@ use Rattle.tables.specs.declared.Test.the-variants.{NotSince, OpenSince,
 use Rattle.tables.specs.Tests.{passesBy, passing, brokenPair, isBroken, durableFrom, endedFrom, fenced}
 use Rattle.tables.specs.Next.{closes}
 use Rattle.tables.proofs.Table.{changed-same}
-use Rattle.tables.proofs.Searched.{lowest-never}
+use Rattle.tables.proofs.Searched.{lowest-none}
 
 -- an interval is open after a store that no fence has closed
 open-test : (s o k : ℕ) → isOpen (intervalFrom s o k) ≡ passesBy (OpenSince 0) s k
@@ -65,8 +65,7 @@ module _ (counts : Counts) (logged : List ℕ) (a : Range) where
   pub store-outside : counts .depth ≡ 0 → None ≡ findingBy (ofRun (runOf counts [] logged [] [] [] [])) (Store a)
   unfolding findingBy
   store-outside z =
-      let never : unlogged (ofRun (runOf counts [] logged [] [] [] [])) ≡ (λ b. false) = fun-ext (λ b. rw (eq-eqb (counts .depth) 0 z)) in
-      rw (never, lowest-never)
+      rw (lowest-none (unlogged (ofRun (runOf counts [] logged [] [] [] []))) (a .length) (a .address) (λ b h k. rw (eq-eqb (counts .depth) 0 z)))
 
   -- inside one it goes by the logs
   pub store-inside : counts .depth ≢ 0 →

@@ -9,6 +9,7 @@ use Rattle.event.specs.declared.Check.the-variants.{Passed, Refused as Breaks}
 use Rattle.event.specs.declared.Answer.the-variants.{Refused, Found}
 use Rattle.history.specs.Refused.{refusalBy}
 use Rattle.history.specs.Found.{findingBy}
+use Rattle.tables.specs.declared.Counts.{Counts}
 use Rattle.tables.specs.declared.Run.{Run}
 use Rattle.tables.specs.declared.Given.{Given}
 use Rattle.tables.specs.declared.Stepped.{Stepped}
@@ -20,6 +21,10 @@ abbrev pub nextOf : Run → Event → Finding → Run
 nextOf run e f =
     let next = tablesAfter run e in
     runOf (countsAfter (run .counts) e f) (next .stored) (next .logged) (next .opened) (next .closed) (next .written) (next .backed)
+
+-- the answer and the numbers of an accepted event that got this finding
+abbrev pub steppedFor : Counts → Event → Finding → Stepped
+steppedFor counts e f = record { answer = Found f; counts = countsAfter counts e f }
 
 -- an event given: refused, and the run as it was; or its finding, and the next run
 abbrev pub givenFor : Check → Run → Event → Given

@@ -24,18 +24,33 @@ numberOf counts = suc (counts .events)
 abbrev pub oneMore : ℕ → ℕ
 oneMore n = suc n % 2 ^ 16
 
--- the numbers after the event, which got this finding
-unfoldable pub countsAfter : Counts → Event → Finding → Counts
-countsAfter c e f =
+-- the numbers with one more event, which got this finding
+abbrev pub countedWith : Counts → Finding → Counts
+countedWith c f =
     record {
       lines = c .lines;
       events = numberOf c;
-      fences = cond (fences e) (oneMore (c .fences)) (c .fences);
+      fences = c .fences;
       findings = cond (isNone f) (c .findings) (oneMore (c .findings));
+      depth = c .depth;
+      begin = c .begin;
+      store = c .store;
+      fence = c .fence;
+    }
+
+-- the numbers after the event, which got this finding
+unfoldable pub countsAfter : Counts → Event → Finding → Counts
+countsAfter c e f =
+    let next = countedWith c f in
+    record {
+      lines = next .lines;
+      events = next .events;
+      fences = cond (fences e) (oneMore (c .fences)) (c .fences);
+      findings = next .findings;
       depth = depthAfter e (c .depth);
-      begin = cond (begins e && eqb (c .depth) 0) (numberOf c) (c .begin);
-      store = cond (stores e) (numberOf c) (c .store);
-      fence = cond (fences e) (numberOf c) (c .fence);
+      begin = cond (begins e && eqb (c .depth) 0) (next .events) (c .begin);
+      store = cond (stores e) (next .events) (c .store);
+      fence = cond (fences e) (next .events) (c .fence);
     }
 
 -- a fence closes the byte: its interval is open, and its line was written back since its last store and since the last fence

@@ -23,6 +23,11 @@ unfoldable pub searched : Option ℕ → Search
 searched none = Nothing
 searched (some x) = At x
 
+-- what it found, by its answer
+abbrev pub foundBy : Search → Option ℕ
+foundBy Nothing = none
+foundBy (At x) = some x
+
 unfoldable pub pairSearched : Option Pair → PairSearch
 pairSearched none = NoPair
 pairSearched (some p) = AtPair (p .kept) (p .lost)

@@ -9,17 +9,18 @@ use event::Finding;
 use event::Range;
 use event::window;
 ghost use mathlib.Core.Path.{_≡_};
+ghost use mathlib.Core.Bool.{true};
 ghost use mathlib.Core.List.{[]};
-ghost use Prim.Native.Nat.{_+_, _<_, _≤_};
-ghost use Rattle.event.specs.declared.Check.the-variants.{Passed};
-ghost use Rattle.event.specs.Window.{rangeEnd};
-ghost use Rattle.history.specs.Refused.{refusalBy};
-ghost use Rattle.history.specs.Found.{findingBy};
-ghost use Rattle.tables.specs.View.{runOf, noCounts, limitsOf, ofRun};
-ghost use Rattle.tables.specs.Tests.{durableFrom, endedFrom};
+ghost use mathlib.Core.Option.{some};
+ghost use Prim.Native.Nat.{ℕ, _<_, _≤_};
+ghost use Rattle.event.specs.Window.{windowBytes, rangeEnd};
+ghost use Rattle.history.specs.Found.{lowest, durable, findingBy};
+ghost use Rattle.tables.specs.View.{runOf, noCounts, ofRun};
+ghost use Rattle.tables.specs.Tests.{searched, foundBy, passing, durableFrom, endedFrom};
+ghost use Rattle.tables.specs.Marked.{Marked};
 
 // A store: unlogged, where a transaction is open.
-fn of_store(counts: Counts, logged: &[u16; 4096], a: Range) -> Finding
+pub(crate) fn of_store(counts: Counts, logged: &[u16; 4096], a: Range) -> Finding
     requires { ⌜ rangeEnd a ≤ 4096 ⌝ }
     ensures { λ r. ⌜ r ≡ findingBy (ofRun (runOf counts [] (now (logged .entry)) [] [] [] [])) (Event.Store a) ⌝ }
 {
@@ -35,7 +36,7 @@ fn of_store(counts: Counts, logged: &[u16; 4096], a: Range) -> Finding
 }
 
 // A write-back: clean or written twice.
-fn of_back(written: &[u16; 64], backed: &[u16; 64], a: Range) -> Finding
+pub(crate) fn of_back(written: &[u16; 64], backed: &[u16; 64], a: Range) -> Finding
     requires { ⌜ rangeEnd a ≤ 4096 ⌝ }
     ensures { λ r. ⌜ r ≡ findingBy (ofRun (runOf (noCounts 0) [] [] [] [] (now (written .entry)) (now (backed .entry)))) (Event.WriteBack a) ⌝ }
 {
@@ -56,7 +57,7 @@ fn of_back(written: &[u16; 64], backed: &[u16; 64], a: Range) -> Finding
 }
 
 // A log: logged twice.
-fn of_log(counts: Counts, logged: &[u16; 4096], a: Range) -> Finding
+pub(crate) fn of_log(counts: Counts, logged: &[u16; 4096], a: Range) -> Finding
     requires { ⌜ rangeEnd a ≤ 4096 ⌝ }
     ensures { λ r. ⌜ r ≡ findingBy (ofRun (runOf counts [] (now (logged .entry)) [] [] [] [])) (Event.Log a) ⌝ }
 {
@@ -68,19 +69,12 @@ fn of_log(counts: Counts, logged: &[u16; 4096], a: Range) -> Finding
     }
 }
 
-// Holds, or lost at the lowest of the n bytes from `at` on that was stored to after the begin and is not closed.
-fn durable(
-    counts: Counts,
-    stored: &[u16; 4096],
-    closed: &[u16; 4096],
-    begin: u16,
-    at: usize,
-    n: usize,
-) -> Finding
-    requires { ⌜ (counts .events < 65535) × (at + n ≤ 4096) ⌝ }
-    ensures { λ r. ⌜ r ≡ durableFrom counts (now (stored .entry)) (now (closed .entry)) begin at n ⌝ }
+// Holds where a search found nothing, and lost at the byte that it found.
+fn lost_at(counts: Counts, stored: &[u16; 4096], s: Search) -> Finding
+    requires { ⌜ (counts .events < 65535) × ((b : ℕ) → foundBy s ≡ some b → b < 4096) ⌝ }
+    ensures { λ r. ⌜ r ≡ durable (ofRun (runOf counts (now (stored .entry)) [] [] [] [] [])) (foundBy s) ⌝ }
 {
-    match searches::first_open(begin, stored, closed, at, n) {
+    match s {
         Search::Nothing => Finding::Holds,
         Search::At(b) => {
             let i = b as usize;
@@ -94,18 +88,59 @@ fn durable(
 }
 
 // A persisted: holds or lost.
-fn of_persisted(counts: Counts, stored: &[u16; 4096], closed: &[u16; 4096], a: Range) -> Finding
+pub(crate) fn of_persisted(
+    counts: Counts,
+    stored: &[u16; 4096],
+    closed: &[u16; 4096],
+    a: Range,
+) -> Finding
     requires { ⌜ (counts .events < 65535) × (rangeEnd a ≤ 4096) ⌝ }
     ensures { λ r. ⌜ r ≡ durableFrom counts (now (stored .entry)) (now (closed .entry)) 0 (a .address) (a .length) ⌝ }
 {
     let at = a.address as usize;
     let n = a.length as usize;
-    durable(counts, stored, closed, 0, at, n)
+    let s = searches::first_open(0, stored, closed, at, n);
+    lost_at(counts, stored, s)
+}
+
+// The lowest byte of the window that was stored to after the begin and is not closed. Where the line's last store tells that no
+// byte of the line was, the line is passed over.
+fn first_since_begin(
+    begin: u16,
+    stored: &[u16; 4096],
+    closed: &[u16; 4096],
+    written: &[u16; 64],
+    marked: bool,
+    lines: usize,
+) -> Search
+    requires { ⌜ (lines ≤ 64) × ((marked ≡ true) → Marked (now stored) (now written)) ⌝ }
+    ensures { λ r. ⌜ r ≡ searched (lowest (passing (Test.OpenSince begin) (now (stored .entry)) (now (closed .entry))) 0 (windowBytes lines)) ⌝ }
+{
+    let mut l = 0;
+    while l < lines {
+        if !marked || begin < written[l] {
+            let at = window::line_start(l as u16) as usize;
+            match searches::first(Test::OpenSince(begin), stored, closed, at, 64) {
+                Search::Nothing => {}
+                Search::At(b) => {
+                    return Search::At(b);
+                }
+            }
+        }
+        l += 1;
+    }
+    Search::Nothing
 }
 
 // An end: none if it is an inner one; else empty, or as a persisted over the bytes stored since the begin.
-fn of_end(counts: Counts, stored: &[u16; 4096], closed: &[u16; 4096]) -> Finding
-    requires { ⌜ counts .events < 65535 ⌝ }
+pub(crate) fn of_end(
+    counts: Counts,
+    stored: &[u16; 4096],
+    closed: &[u16; 4096],
+    written: &[u16; 64],
+    marked: bool,
+) -> Finding
+    requires { ⌜ (counts .events < 65535) × ((marked ≡ true) → Marked (now stored) (now written)) ⌝ }
     ensures { λ r. ⌜ r ≡ endedFrom counts (now (stored .entry)) (now (closed .entry)) ⌝ }
 {
     if counts.depth != 1 {
@@ -114,12 +149,13 @@ fn of_end(counts: Counts, stored: &[u16; 4096], closed: &[u16; 4096]) -> Finding
     if counts.store <= counts.begin {
         return Finding::Empty;
     }
-    let n = window::window_bytes(crate::lines_of(counts)) as usize;
-    durable(counts, stored, closed, counts.begin, 0, n)
+    let lines = crate::lines_of(counts) as usize;
+    let s = first_since_begin(counts.begin, stored, closed, written, marked, lines);
+    lost_at(counts, stored, s)
 }
 
 // An ordered: holds or out of order.
-fn of_ordered(
+pub(crate) fn of_ordered(
     stored: &[u16; 4096],
     opened: &[u16; 4096],
     closed: &[u16; 4096],
@@ -141,38 +177,5 @@ fn of_ordered(
                 store: stored[l],
             }
         }
-    }
-}
-
-// The finding of an event that no limit refuses.
-pub(crate) fn finding_of(
-    counts: Counts,
-    stored: &[u16; 4096],
-    logged: &[u16; 4096],
-    opened: &[u16; 4096],
-    closed: &[u16; 4096],
-    written: &[u16; 64],
-    backed: &[u16; 64],
-    e: Event,
-) -> Finding
-    requires { ⌜ refusalBy (limitsOf counts) e ≡ Passed ⌝ }
-    ensures { λ r. ⌜
-        r ≡
-        findingBy
-        (ofRun
-        (runOf counts (now (stored .entry)) (now (logged .entry)) (now (opened .entry)) (now (closed .entry))
-        (now (written .entry)) (now (backed .entry))))
-        e
-        ⌝ }
-{
-    match e {
-        Event::Store(a) => of_store(counts, logged, a),
-        Event::WriteBack(a) => of_back(written, backed, a),
-        Event::Fence => Finding::None,
-        Event::Begin => Finding::None,
-        Event::Log(a) => of_log(counts, logged, a),
-        Event::End => of_end(counts, stored, closed),
-        Event::Persisted(a) => of_persisted(counts, stored, closed, a),
-        Event::Ordered(a, b) => of_ordered(stored, opened, closed, a, b),
     }
 }

@@ -1,7 +1,10 @@
 -- `tables::findings::of_end` meets its contract: each way out goes by the tests that led there.
 -- Assumes nothing.
+use mathlib.Core.Path.{sym, _∙_}
+use native.Mathlib.Omega.{arith}
 use borrow.Author.Needs.{needs}
 use borrow.Author.Tests.{eq-eqb, ne-eqb, lt-ltb, le-ltb}
+use Rattle.tables.proofs.Searched.{found-by, lowest-below}
 use Rattle.tables.proofs.findings.of_end.Statement.{statement}
 use Rattle.tables.proofs.findings.of_end.Tie as tie
 
@@ -14,17 +17,17 @@ returns-2 c = simp (eq-eqb _ 1 (c .before .before .if1 .left), le-ltb _ _ (c .if
 lines-of-requires : tie.Need-lines-of-requires
 lines-of-requires c κs = search needs
 
-window-bytes-requires : tie.Need-window-bytes-requires
-window-bytes-requires c κs = search needs
+cast-lines : tie.Need-cast-lines
+cast-lines c = search needs
 
-cast-n : tie.Need-cast-n
-cast-n c = search needs
+first-since-begin-requires : tie.Need-first-since-begin-requires
+first-since-begin-requires c κs = search needs
 
-durable-requires : tie.Need-durable-requires
-durable-requires c κs = search needs
+lost-at-requires : tie.Need-lost-at-requires
+lost-at-requires c κs = (search needs, λ b h. omega (arith, lowest-below _ _ _ (sym (found-by _ (c .first-since-begin .ensures)) ∙ h), c .before .lines-of .ensures))
 
 returns-3 : tie.Need-returns-3
-returns-3 c = let w = c .before in let t = w .before .before in rw (eq-eqb _ 1 (t .before .before .if1 .left), lt-ltb _ _ (t .if2 .left)) (rw (w .window-bytes .ensures, w .before .lines-of .ensures) at (c .durable .ensures))
+returns-3 c = let f = c .before in let l = f .before in let t = l .before in rw (eq-eqb _ 1 (t .before .before .if1 .left), lt-ltb _ _ (t .if2 .left)) (rw (found-by _ (f .first-since-begin .ensures), l .lines-of .ensures) at (c .lost-at .ensures))
 
 pub of-end-spec : {M : Type 1} → statement M
 of-end-spec =
@@ -33,7 +36,7 @@ of-end-spec =
     returns
     returns-2
     lines-of-requires
-    window-bytes-requires
-    cast-n
-    durable-requires
+    cast-lines
+    first-since-begin-requires
+    lost-at-requires
     returns-3)

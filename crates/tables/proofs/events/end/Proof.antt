@@ -1,0 +1,23 @@
+-- `tables::events::end` meets its contract: its finding, one more event, and one transaction less.
+-- Assumes nothing.
+use native.Mathlib.Numerals.{sub-one}
+use borrow.Author.Needs.{needs}
+use Rattle.tables.specs.Next.{countsAfter}
+use Rattle.tables.proofs.events.end.Statement.{statement}
+use Rattle.tables.proofs.events.end.Tie as tie
+
+of-end-requires : tie.Need-of-end-requires
+of-end-requires c κs = search needs
+
+counted-requires : tie.Need-counted-requires
+counted-requires c κs = search needs
+
+sub-t9 : tie.Need-sub-t9
+sub-t9 c = search needs
+
+returns : tie.Need-returns
+unfolding countsAfter
+returns c = rw (c .before .counted .ensures, c .before .before .of-end .ensures, sub-one)
+
+pub end-spec : {M : Type 1} → statement M
+end-spec = tie.close (tie.spec of-end-requires counted-requires sub-t9 returns)

@@ -1,0 +1,34 @@
+-- `tables::events::fence` meets its contract: the numbers with this as the latest fence, and the table that its call ensures.
+-- Assumes nothing.
+use mathlib.Core.Path.{_≡_, _∙_}
+use native.Mathlib.Numerals.{add-one}
+use borrow.Author.Needs.{needs}
+use Rattle.tables.specs.Next.{oneMore, countsAfter}
+use Rattle.tables.proofs.events.fence.Statement.{statement}
+use Rattle.tables.proofs.events.fence.Tie as tie
+
+wrapping-add-u16-requires : tie.Need-wrapping-add-u16-requires
+wrapping-add-u16-requires c κs = search needs
+
+lines-of-requires : tie.Need-lines-of-requires
+lines-of-requires c κs = search needs
+
+close-lines-requires : tie.Need-close-lines-requires
+close-lines-requires c κs = search needs
+
+counted-requires : tie.Need-counted-requires
+counted-requires c κs = search needs
+
+returns : tie.Need-returns
+unfolding countsAfter
+returns c = let l = c .before .before in let w = l .before .before in let epoch : w .wrapping-add-u16 .result ≡ oneMore (w .before .args .counts .fences) = w .wrapping-add-u16 .ensures ∙ rw add-one in (rw (c .counted .ensures, epoch), rw (l .lines-of .ensures, epoch) at (c .before .close-lines .ensures))
+
+pub fence-spec : {M : Type 1} → statement M
+fence-spec =
+    tie.close
+    (tie.spec
+    wrapping-add-u16-requires
+    lines-of-requires
+    close-lines-requires
+    counted-requires
+    returns)

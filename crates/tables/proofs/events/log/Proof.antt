@@ -1,0 +1,22 @@
+-- `tables::events::log` meets its contract: its finding, one more event, and the table that its call ensures.
+-- Assumes nothing.
+use borrow.Author.Needs.{needs}
+use Rattle.tables.specs.Next.{countsAfter}
+use Rattle.tables.proofs.events.log.Statement.{statement}
+use Rattle.tables.proofs.events.log.Tie as tie
+
+of-log-requires : tie.Need-of-log-requires
+of-log-requires c κs = search needs
+
+counted-requires : tie.Need-counted-requires
+counted-requires c κs = search needs
+
+fill-bytes-requires : tie.Need-fill-bytes-requires
+fill-bytes-requires c κs = search needs
+
+returns : tie.Need-returns
+unfolding countsAfter
+returns c = let k = c .before .before in (rw (k .counted .ensures, k .before .of-log .ensures), rw (k .counted .ensures) at (c .fill-bytes .ensures))
+
+pub log-spec : {M : Type 1} → statement M
+log-spec = tie.close (tie.spec of-log-requires counted-requires fill-bytes-requires returns)

@@ -1,0 +1,19 @@
+-- `tables::events::ordered` meets its contract: its finding, and one more event.
+-- Assumes nothing.
+use borrow.Author.Needs.{needs}
+use Rattle.tables.specs.Next.{countsAfter}
+use Rattle.tables.proofs.events.ordered.Statement.{statement}
+use Rattle.tables.proofs.events.ordered.Tie as tie
+
+of-ordered-requires : tie.Need-of-ordered-requires
+of-ordered-requires c κs = search needs
+
+counted-requires : tie.Need-counted-requires
+counted-requires c κs = search needs
+
+returns : tie.Need-returns
+unfolding countsAfter
+returns c = rw (c .counted .ensures, c .before .of-ordered .ensures)
+
+pub ordered-spec : {M : Type 1} → statement M
+ordered-spec = tie.close (tie.spec of-ordered-requires counted-requires returns)
