@@ -1,14 +1,22 @@
 -- The link: a run that grew from a fresh window tracks the accepted events, so it answers as they say.
 use mathlib.Core.Path.{_≡_, refl}
+use mathlib.Core.Bool.{Bool, true, false, _&&_}
 use mathlib.Core.List.{List, [], _∷_}
-use Prim.Native.Nat.{ℕ, min, _+_, _≤_}
+use Prim.Native.Nat.{ℕ, min, _+_, _≤_, _<_}
 use native.Mathlib.Omega.{arith}
+use lib.Dec.{ltb}
+use lib.ListN.{length}
+use borrow.Author.Tests.{lt-ltb, ltb-true}
 use Rattle.event.specs.declared.Record.{Record}
-use Rattle.event.specs.Window.{mostLines}
-use Rattle.history.specs.History.{History}
-use Rattle.history.specs.Interval.{intervalOf}
+use Rattle.event.specs.Window.{mostLines, lineOf}
+use Rattle.history.specs.Count.{last}
+use Rattle.history.specs.History.{History, is, storesLine}
+use Rattle.history.specs.Interval.{lastStore, intervalOf}
+use Rattle.history.specs.Transaction.{outermost}
 use Rattle.history.specs.View.{ofHistory}
 use Rattle.history.specs.Given.{accepted, answers, reported}
+use Rattle.history.proofs.History.{is-latest}
+use Rattle.history.proofs.Interval.{last-store-on-line}
 use Rattle.tables.specs.declared.Run.{Run}
 use Rattle.tables.specs.Table.{entry}
 use Rattle.tables.specs.View.{intervalFrom, ofRun}
@@ -26,6 +34,24 @@ same-interval : {lines : ℕ} {h : History} {run : Run} → Tracks lines h run �
     intervalFrom (entry (run .stored) b) (entry (run .opened) b) (entry (run .closed) b) ≡ intervalOf h b
 same-interval {h = h} t b = rw (t .stored b, t .opened b, t .closed b) (interval-from h b)
 
+-- a byte that was stored to since an event is on a line that was
+line-since : (h : History) (n b : ℕ) → (ltb n (last (is (storesLine (lineOf b)) h) (length h)) && ltb n (lastStore h b)) ≡ ltb n (lastStore h b)
+line-since h n b = go (ltb n (lastStore h b)) refl
+  where
+    go : (t : Bool) → ltb n (lastStore h b) ≡ t → (ltb n (last (is (storesLine (lineOf b)) h) (length h)) && t) ≡ t
+    go true e =
+        let later : n < lastStore h b = ltb-true n (lastStore h b) e in
+        let on-line = is-latest (storesLine (lineOf b)) h (lastStore h b) (last-store-on-line h b (λ z. omega arith)) in
+        rw (lt-ltb n (last (is (storesLine (lineOf b)) h) (length h)) (omega (arith, later, on-line)))
+    go false e = none (ltb n (last (is (storesLine (lineOf b)) h) (length h)))
+
+    none : (t : Bool) → (t && false) ≡ false
+    none true = refl
+    none false = refl
+
+same-since : {lines : ℕ} {h : History} {run : Run} → Tracks lines h run → (b : ℕ) → ofRun run .storedSince b ≡ ofHistory lines h .storedSince b
+same-since {h = h} t b = rw (t .began, t .written (lineOf b), t .stored b) (line-since h (outermost h) b)
+
 -- a run that tracks a history answers a judge's questions as the history does
 pub same-view : {lines : ℕ} {h : History} {run : Run} → lines ≤ mostLines → Tracks lines h run → ofRun run ≡ ofHistory lines h
 same-view {lines} {h} {run} m t =
@@ -39,6 +65,7 @@ same-view {lines} {h} {run} m t =
       latestStore = t .latestStore i;
       lastStore = λ b. t .stored b i;
       lastLog = λ b. t .logged b i;
+      storedSince = λ b. same-since t b i;
       interval = λ b. same-interval t b i;
       lineStore = λ l. t .written l i;
       lineBack = λ l. t .backed l i;

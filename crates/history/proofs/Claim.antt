@@ -24,7 +24,7 @@ use Rattle.history.specs.Interval.{lastStore}
 use Rattle.history.specs.Transaction.{depth, outermost, Since}
 use Rattle.history.specs.View.{ofHistory}
 use Rattle.history.specs.Broken.{PersistedBroken}
-use Rattle.history.specs.Found.{lowest, atRisk, storedSince, durable, breaks, inOrder, ended, findingBy, Pair, isOpen}
+use Rattle.history.specs.Found.{lowest, atRisk, durable, breaks, inOrder, ended, findingBy, Pair, isOpen}
 use Rattle.history.specs.Assertion.{Shown, BrokenByte, Persists, BrokenPair, Orders}
 use Rattle.history.specs.Claim.{Ended, ClaimOf, Claim}
 use Rattle.history.proofs.Search.{Least, Decides, least, LeastPair, least-pair}
@@ -94,14 +94,14 @@ module _ (lines : ℕ) (h : History) (r : Record) (q : NoEffect (r .event)) wher
       subst₂ (λ (s t : ℕ). Orders now n a b (OutOfOrder lost kept s t)) (last-store-unchanged r h q kept) (last-store-unchanged r h q lost)
       (Orders.outOfOrder x y (shown lost (lastStore now kept) (pair-risk now risk) (last-store-within now kept)) (pair-kept now risk))
 
-  ended-decides : Inside lines h → Decides (λ b. storedSince (ofHistory lines h) b && atRisk (ofHistory lines h) b) (BrokenByte now n (λ b. Since h (storesByte b))) 0 (windowBytes lines)
+  ended-decides : Inside lines h → Decides (λ b. ofHistory lines h .storedSince b && atRisk (ofHistory lines h) b) (BrokenByte now n (λ b. Since h (storesByte b))) 0 (windowBytes lines)
   unfolding lastStore
   ended-decides inside =
       record {
         sound = λ b from to e.
             record {
-              judged = since-is lines h (storesByte b) (and-left (storedSince (ofHistory lines h) b) (atRisk (ofHistory lines h) b) e);
-              broken = open-broken b (and-right (storedSince (ofHistory lines h) b) (atRisk (ofHistory lines h) b) e);
+              judged = since-is lines h (storesByte b) (and-left (ofHistory lines h .storedSince b) (atRisk (ofHistory lines h) b) e);
+              broken = open-broken b (and-right (ofHistory lines h .storedSince b) (atRisk (ofHistory lines h) b) e);
             };
         complete = λ b y. both (is-since lines h (storesByte b) (y .judged)) (broken-open b (y .broken));
         from = λ b y. omega arith;
@@ -112,7 +112,7 @@ module _ (lines : ℕ) (h : History) (r : Record) (q : NoEffect (r .event)) wher
   ended-meets inside = go (eqb (depth h) 1) refl (ltb (outermost h) (last (is stores h) (length h))) refl
     where
       judged : Finding
-      judged = durable (ofHistory lines h) (lowest (λ b. storedSince (ofHistory lines h) b && atRisk (ofHistory lines h) b) 0 (windowBytes lines))
+      judged = durable (ofHistory lines h) (lowest (λ b. ofHistory lines h .storedSince b && atRisk (ofHistory lines h) b) 0 (windowBytes lines))
 
       go : (b : Bool) → eqb (depth h) 1 ≡ b → (c : Bool) → ltb (outermost h) (last (is stores h) (length h)) ≡ c → Ended h now n (cond b (cond c judged Empty) None)
       go true e true s = Ended.outermost (eqb-true (depth h) 1 e) (since-is lines h stores s) (durable-meets (λ b. Since h (storesByte b)) _ (least _ _ 0 (windowBytes lines) (ended-decides inside)))

@@ -35,10 +35,6 @@ since v n = ltb (v .begin) n
 abbrev pub logged : View → ℕ → Bool
 logged v b = since v (v .lastLog b)
 
--- the byte was stored since the outermost begin
-abbrev pub storedSince : View → ℕ → Bool
-storedSince v b = since v (v .lastStore b)
-
 -- a transaction is open, and the byte not logged in it
 abbrev pub unlogged : View → ℕ → Bool
 unlogged v b = not (eqb (v .depth) 0) && not (logged v b)
@@ -114,7 +110,7 @@ inOrder v (some p) = OutOfOrder (p .lost) (p .kept) (v .lastStore (p .kept)) (v 
 abbrev pub ended : View → Finding
 ended v =
     cond (since v (v .latestStore))
-    (durable v (lowest (λ b. storedSince v b && atRisk v b) 0 (windowBytes (v .lines))))
+    (durable v (lowest (λ b. v .storedSince b && atRisk v b) 0 (windowBytes (v .lines))))
     Empty
 
 -- the finding of each kind of event

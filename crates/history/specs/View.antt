@@ -1,6 +1,8 @@
 -- What a judge asks of a run: the questions that refusals and findings are worked out from. Here their answers are read off
 -- a history; the engine answers the same questions from its tables.
+use mathlib.Core.Bool.{Bool}
 use Prim.Native.Nat.{ℕ}
+use lib.Dec.{ltb}
 use lib.ListN.{length}
 use Rattle.event.specs.declared.Interval.{Interval}
 use Rattle.history.specs.Count.{last}
@@ -16,6 +18,7 @@ pub record View : Type 0 where
   pub latestStore : ℕ  -- the latest store, whatever it covers
   pub lastStore : ℕ → ℕ  -- a byte's last store
   pub lastLog : ℕ → ℕ  -- a byte's last log
+  pub storedSince : ℕ → Bool  -- a byte was stored to since that begin
   pub interval : ℕ → Interval  -- a byte's persist interval
   pub lineStore : ℕ → ℕ  -- the last store to a line
   pub lineBack : ℕ → ℕ  -- the last write-back of a line
@@ -31,6 +34,7 @@ ofHistory lines h =
       latestStore = last (is stores h) (length h);
       lastStore = lastStore h;
       lastLog = λ b. last (is (logsByte b) h) (length h);
+      storedSince = λ b. ltb (outermost h) (lastStore h b);
       interval = intervalOf h;
       lineStore = λ l. last (is (storesLine l) h) (length h);
       lineBack = λ l. last (is (writesBackLine l) h) (length h);

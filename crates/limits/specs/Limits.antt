@@ -1,4 +1,5 @@
 -- The limits 8 to 12 ask for three numbers of a run: the window's lines, the events taken and the transactions open.
+use mathlib.Core.Bool.{false}
 use Prim.Native.Nat.{ℕ}
 use lib.ListN.{drop}
 use Rattle.event.specs.declared.Event.{Event}
@@ -18,6 +19,7 @@ numbersOf lines events depth =
       latestStore = 0;
       lastStore = λ b. 0;
       lastLog = λ b. 0;
+      storedSince = λ b. false;
       interval = λ b. None;
       lineStore = λ l. 0;
       lineBack = λ l. 0;

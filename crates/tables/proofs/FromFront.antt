@@ -1,5 +1,5 @@
 -- A search from the front, one turn of a loop at a time: what is left of it from a place on, up to an end.
-use mathlib.Core.Path.{_≡_, sym, _∙_, ap, fun-ext}
+use mathlib.Core.Path.{_≡_, sym, _∙_, ap}
 use mathlib.Core.Bool.{Bool, true, false}
 use mathlib.Core.Option.{Option, none, some}
 use Prim.Native.Nat.{ℕ, suc, _+_, _-_, _≤_, _<_}
@@ -11,7 +11,7 @@ use Rattle.history.specs.Found.{lowest, lowestPair, Pair}
 use Rattle.tables.specs.declared.Search.the-variants.{Nothing, At}
 use Rattle.tables.specs.declared.PairSearch.the-variants.{Nothing as NoPair, At as AtPair}
 use Rattle.tables.specs.Tests.{searched, pairSearched}
-use Rattle.tables.proofs.Searched.{lowest-never}
+use Rattle.tables.proofs.Searched.{lowest-none}
 
 -- the search over what is left
 abbrev pub left : (ℕ → Bool) → ℕ → ℕ → Option ℕ
@@ -103,8 +103,7 @@ module _ (p : ℕ → ℕ → Bool) (a b : Range) (x : ℕ)
   pub pair-never : ((y : ℕ) → p x y ≡ false) → x < rangeEnd b →
       leftPair p (a .address) (rangeEnd a) (rangeEnd b) (x + 1) ≡ leftPair p (a .address) (rangeEnd a) (rangeEnd b) (b .address)
   pair-never never h =
-      let nobody : p x ≡ (λ y. false) = fun-ext never in
-      pairs-next p (a .address) (rangeEnd a) (rangeEnd b) x h (rw nobody (lowest-never (rangeEnd a - a .address) (a .address))) ∙ same
+      pairs-next p (a .address) (rangeEnd a) (rangeEnd b) x h (lowest-none (p x) (rangeEnd a - a .address) (a .address) (λ y low high. never y)) ∙ same
 
   -- it ends where nothing is left
   pub pair-nothing : rangeEnd b ≤ x → NoPair ≡ pairSearched (lowestPair p a (b .address) (b .length))

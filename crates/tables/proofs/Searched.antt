@@ -75,3 +75,10 @@ pub lowest-none : (p : ℕ → Bool) (n x : ℕ) → ((k : ℕ) → x ≤ k → 
 unfolding lowest
 lowest-none p zero x h = refl
 lowest-none p (suc n) x h = rw (h x (omega arith) (omega arith)) (lowest-none p n (suc x) (λ k a b. h k (omega arith) (omega arith)))
+
+-- tests that agree on these places find the same
+pub lowest-same : (p q : ℕ → Bool) (n x : ℕ) → ((k : ℕ) → x ≤ k → k < x + n → p k ≡ q k) → lowest p x n ≡ lowest q x n
+unfolding lowest
+lowest-same p q zero x same = refl
+lowest-same p q (suc n) x same =
+    rw (same x (omega arith) (omega arith), lowest-same p q n (suc x) (λ k a b. same k (omega arith) (omega arith)))

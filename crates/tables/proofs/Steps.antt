@@ -78,7 +78,7 @@ module _ (run : Run) {s : Stepped} {e : Event} where
   unfolding findingBy tablesAfter
   log-taken told stepped i = rw (told, stepped, i)
 
-  pub end-taken : e ≡ End → s ≡ steppedFor (run .counts) End (endedFrom (run .counts) (run .stored) (run .closed)) → unchanged run s ≡ givenFor Passed run e
+  pub end-taken : e ≡ End → s ≡ steppedFor (run .counts) End (endedFrom (run .counts) (run .stored) (run .closed) (run .written)) → unchanged run s ≡ givenFor Passed run e
   unfolding tablesAfter
   end-taken told stepped = rw (told, stepped, end-found run)
 

@@ -12,13 +12,13 @@ use Rattle.event.specs.declared.Range.{Range}
 use Rattle.event.specs.declared.Event.the-variants.{Store, WriteBack, End, Persisted, Ordered}
 use Rattle.event.specs.declared.Finding.the-variants.{None, Unlogged}
 use Rattle.event.specs.Window.{lineOf, lineCount}
-use Rattle.history.specs.Found.{Pair, lowest, lowestIn, lowestPair, foundOr, unlogged, clean, writtenTwice, warnedLine, storedSince, isOpen, atRisk, openedAt, closedBy, breaks, inOrder, findingBy}
+use Rattle.history.specs.Found.{Pair, lowest, lowestIn, lowestPair, foundOr, unlogged, clean, writtenTwice, warnedLine, isOpen, atRisk, openedAt, closedBy, breaks, inOrder, findingBy}
 use Rattle.tables.specs.declared.Counts.{Counts}
 use Rattle.tables.specs.declared.Run.{Run}
 use Rattle.tables.specs.Table.{entry, changed}
 use Rattle.tables.specs.View.{runOf, noCounts, intervalFrom, ofRun}
 use Rattle.tables.specs.declared.Test.the-variants.{NotSince, OpenSince, Wasted}
-use Rattle.tables.specs.Tests.{passesBy, passing, brokenPair, isBroken, durableFrom, endedFrom, fenced}
+use Rattle.tables.specs.Tests.{passesBy, passing, brokenPair, isBroken, durableFrom, lostAtEnd, endedFrom, fenced}
 use Rattle.tables.specs.Next.{closes}
 use Rattle.tables.proofs.Table.{changed-same}
 use Rattle.tables.proofs.Searched.{lowest-none}
@@ -103,15 +103,19 @@ module _ (run : Run) where
       rw same
 
   -- an end likewise, over the bytes stored to since the begin
-  pub end-found : findingBy (ofRun run) End ≡ endedFrom (run .counts) (run .stored) (run .closed)
+  pub end-found : findingBy (ofRun run) End ≡ endedFrom (run .counts) (run .stored) (run .closed) (run .written)
   unfolding findingBy
   end-found =
-      let same : (λ b. storedSince (ofRun run) b && atRisk (ofRun run) b) ≡ passing (OpenSince (run .counts .begin)) (run .stored) (run .closed) =
-      fun-ext (λ b. rw (at-risk b) (later (run .counts .begin) (entry (run .stored) b) (eqb (entry (run .closed) b) 0))) in
+      let same : (λ b. ofRun run .storedSince b && atRisk (ofRun run) b) ≡ lostAtEnd (run .counts .begin) (run .stored) (run .closed) (run .written) =
+      fun-ext
+      (λ b.
+      rw (at-risk b)
+      (later (ltb (run .counts .begin) (entry (run .written) (lineOf b))) (run .counts .begin) (entry (run .stored) b) (eqb (entry (run .closed) b) 0))) in
       rw same
     where
-      later : (n s : ℕ) (t : Bool) → ltb n s && (ltb 0 s && t) ≡ (ltb n s && t)
-      later n s t = go (ltb n s) refl
+      later : (line : Bool) (n s : ℕ) (t : Bool) → (line && ltb n s) && (ltb 0 s && t) ≡ (line && (ltb n s && t))
+      later false n s t = refl
+      later true n s t = go (ltb n s) refl
         where
           go : (u : Bool) → ltb n s ≡ u → u && (ltb 0 s && t) ≡ (u && t)
           go true e = rw (lt-ltb 0 s (let h : n < s = ltb-true n s e in omega arith))

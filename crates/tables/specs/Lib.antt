@@ -4,4 +4,3 @@ pub mod View  -- the questions of a judge, answered by a run
 pub mod Next  -- the run after an accepted event
 pub mod Give  -- an event given to a run
 pub mod Tests  -- the tests that the code makes on the tables
-pub mod Marked  -- tables that agree on the last stores

@@ -61,12 +61,16 @@ durableFrom counts stored closed begin at n =
     durable (ofRun (runOf counts stored [] [] closed [] []))
     (lowest (passing (OpenSince begin) stored closed) at n)
 
+-- the byte was stored to since the begin, by its line's last store and by its own, and is not closed
+abbrev pub lostAtEnd : (begin : ℕ) → (stored closed written : List ℕ) → ℕ → Bool
+lostAtEnd begin stored closed written b = ltb begin (entry written (lineOf b)) && passing (OpenSince begin) stored closed b
+
 -- an end: none if it is an inner one; else empty, or as a persisted over the bytes stored since the begin
-abbrev pub endedFrom : Counts → (stored closed : List ℕ) → Finding
-endedFrom counts stored closed =
+abbrev pub endedFrom : Counts → (stored closed written : List ℕ) → Finding
+endedFrom counts stored closed written =
     cond (eqb (counts .depth) 1)
     (cond (ltb (counts .begin) (counts .store))
-    (durableFrom counts stored closed (counts .begin) 0 (windowBytes (linesOf counts)))
+    (durable (ofRun (runOf counts stored [] [] closed [] [])) (lowest (lostAtEnd (counts .begin) stored closed written) 0 (windowBytes (linesOf counts))))
     Empty)
     None
 

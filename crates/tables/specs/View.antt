@@ -1,9 +1,11 @@
 -- The questions of a judge (`View`), answered by a run.
+use mathlib.Core.Bool.{_&&_}
 use mathlib.Core.List.{List}
 use Prim.Native.Nat.{ℕ, min}
+use lib.Dec.{ltb}
 use Rattle.event.specs.declared.Interval.{Interval}
 use Rattle.event.specs.declared.Interval.the-variants.{None, Open, Closed}
-use Rattle.event.specs.Window.{mostLines}
+use Rattle.event.specs.Window.{mostLines, lineOf}
 use Rattle.history.specs.Count.{ifSome}
 use Rattle.history.specs.View.{View}
 use Rattle.limits.specs.Limits.{numbersOf}
@@ -32,6 +34,7 @@ limitsOf counts = numbersOf (linesOf counts) (counts .events) (counts .depth)
 abbrev pub intervalFrom : ℕ → ℕ → ℕ → Interval
 intervalFrom store opened closed = ifSome store None (λ s. ifSome closed (Open opened) (Closed opened))
 
+-- where the line was not stored to since the begin, its bytes are not looked at
 abbrev pub ofRun : Run → View
 ofRun run =
     record {
@@ -42,6 +45,7 @@ ofRun run =
       latestStore = run .counts .store;
       lastStore = entry (run .stored);
       lastLog = entry (run .logged);
+      storedSince = λ b. ltb (run .counts .begin) (entry (run .written) (lineOf b)) && ltb (run .counts .begin) (entry (run .stored) b);
       interval = λ b. intervalFrom (entry (run .stored) b) (entry (run .opened) b) (entry (run .closed) b);
       lineStore = entry (run .written);
       lineBack = entry (run .backed);

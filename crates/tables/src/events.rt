@@ -20,7 +20,6 @@ ghost use Rattle.history.specs.Found.{findingBy};
 ghost use Rattle.tables.specs.Table.{changed, filledBytes, filledLines};
 ghost use Rattle.tables.specs.View.{runOf, noCounts, linesOf, limitsOf, ofRun};
 ghost use Rattle.tables.specs.Tests.{durableFrom, endedFrom, fenced};
-ghost use Rattle.tables.specs.Marked.{Marked};
 ghost use Rattle.tables.specs.Next.{numberOf, oneMore};
 ghost use Rattle.tables.specs.Give.{outcomeOf, steppedFor, givenFor};
 
@@ -151,17 +150,11 @@ fn log(counts: Counts, logged: &mut [u16; 4096], a: Range) -> Stepped
 }
 
 // An end: one transaction less is open.
-fn end(
-    counts: Counts,
-    stored: &[u16; 4096],
-    closed: &[u16; 4096],
-    written: &[u16; 64],
-    marked: bool,
-) -> Stepped
-    requires { ⌜ (counts .events < 65535) × (1 ≤ counts .depth) × ((marked ≡ true) → Marked (now stored) (now written)) ⌝ }
-    ensures { λ s. ⌜ s ≡ steppedFor counts Event.End (endedFrom counts (now (stored .entry)) (now (closed .entry))) ⌝ }
+fn end(counts: Counts, stored: &[u16; 4096], closed: &[u16; 4096], written: &[u16; 64]) -> Stepped
+    requires { ⌜ (counts .events < 65535) × (1 ≤ counts .depth) ⌝ }
+    ensures { λ s. ⌜ s ≡ steppedFor counts Event.End (endedFrom counts (now (stored .entry)) (now (closed .entry)) (now (written .entry))) ⌝ }
 {
-    let finding = findings::of_end(counts, stored, closed, written, marked);
+    let finding = findings::of_end(counts, stored, closed, written);
     let next = updates::counted(counts, finding);
     Stepped {
         answer: Answer::Found(finding),
@@ -222,10 +215,9 @@ pub(crate) fn accept(
     closed: &mut [u16; 4096],
     written: &mut [u16; 64],
     backed: &mut [u16; 64],
-    marked: bool,
     e: Event,
 ) -> Stepped
-    requires { ⌜ (refusalBy (limitsOf counts) e ≡ Passed) × ((marked ≡ true) → Marked (now stored) (now written)) ⌝ }
+    requires { ⌜ refusalBy (limitsOf counts) e ≡ Passed ⌝ }
     ensures { λ s. ⌜
         outcomeOf s (now (stored .exit)) (now (logged .exit)) (now (opened .exit)) (now (closed .exit))
         (now (written .exit)) (now (backed .exit)) ≡
@@ -241,7 +233,7 @@ pub(crate) fn accept(
         Event::Fence => fence(counts, stored, closed, backed),
         Event::Begin => begin(counts),
         Event::Log(a) => log(counts, logged, a),
-        Event::End => end(counts, stored, closed, written, marked),
+        Event::End => end(counts, stored, closed, written),
         Event::Persisted(a) => persisted(counts, stored, closed, a),
         Event::Ordered(a, b) => ordered(counts, stored, opened, closed, a, b),
     }

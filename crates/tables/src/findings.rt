@@ -16,8 +16,7 @@ ghost use Prim.Native.Nat.{ℕ, _<_, _≤_};
 ghost use Rattle.event.specs.Window.{windowBytes, rangeEnd};
 ghost use Rattle.history.specs.Found.{lowest, durable, findingBy};
 ghost use Rattle.tables.specs.View.{runOf, noCounts, ofRun};
-ghost use Rattle.tables.specs.Tests.{searched, foundBy, passing, durableFrom, endedFrom};
-ghost use Rattle.tables.specs.Marked.{Marked};
+ghost use Rattle.tables.specs.Tests.{searched, foundBy, passing, durableFrom, endedFrom, lostAtEnd};
 
 // A store: unlogged, where a transaction is open.
 pub(crate) fn of_store(counts: Counts, logged: &[u16; 4096], a: Range) -> Finding
@@ -103,22 +102,20 @@ pub(crate) fn of_persisted(
     lost_at(counts, stored, s)
 }
 
-// The lowest byte of the window that was stored to after the begin and is not closed. Where the line's last store tells that no
-// byte of the line was, the line is passed over.
+// The lowest byte of the window that was stored to after the begin and is not closed. Lines not stored to after it are passed over.
 fn first_since_begin(
     begin: u16,
     stored: &[u16; 4096],
     closed: &[u16; 4096],
     written: &[u16; 64],
-    marked: bool,
     lines: usize,
 ) -> Search
-    requires { ⌜ (lines ≤ 64) × ((marked ≡ true) → Marked (now stored) (now written)) ⌝ }
-    ensures { λ r. ⌜ r ≡ searched (lowest (passing (Test.OpenSince begin) (now (stored .entry)) (now (closed .entry))) 0 (windowBytes lines)) ⌝ }
+    requires { ⌜ lines ≤ 64 ⌝ }
+    ensures { λ r. ⌜ r ≡ searched (lowest (lostAtEnd begin (now (stored .entry)) (now (closed .entry)) (now (written .entry))) 0 (windowBytes lines)) ⌝ }
 {
     let mut l = 0;
     while l < lines {
-        if !marked || begin < written[l] {
+        if begin < written[l] {
             let at = window::line_start(l as u16) as usize;
             match searches::first(Test::OpenSince(begin), stored, closed, at, 64) {
                 Search::Nothing => {}
@@ -138,10 +135,9 @@ pub(crate) fn of_end(
     stored: &[u16; 4096],
     closed: &[u16; 4096],
     written: &[u16; 64],
-    marked: bool,
 ) -> Finding
-    requires { ⌜ (counts .events < 65535) × ((marked ≡ true) → Marked (now stored) (now written)) ⌝ }
-    ensures { λ r. ⌜ r ≡ endedFrom counts (now (stored .entry)) (now (closed .entry)) ⌝ }
+    requires { ⌜ counts .events < 65535 ⌝ }
+    ensures { λ r. ⌜ r ≡ endedFrom counts (now (stored .entry)) (now (closed .entry)) (now (written .entry)) ⌝ }
 {
     if counts.depth != 1 {
         return Finding::None;
@@ -150,7 +146,7 @@ pub(crate) fn of_end(
         return Finding::Empty;
     }
     let lines = crate::lines_of(counts) as usize;
-    let s = first_since_begin(counts.begin, stored, closed, written, marked, lines);
+    let s = first_since_begin(counts.begin, stored, closed, written, lines);
     lost_at(counts, stored, s)
 }
 

@@ -5,7 +5,6 @@ use event::Record;
 ghost use mathlib.Core.Path.{_≡_};
 ghost use mathlib.Core.Bool.{true};
 ghost use Rattle.tables.specs.View.{noCounts, linesOf, runOf};
-ghost use Rattle.tables.specs.Marked.{Marked};
 ghost use Rattle.tables.specs.Give.{outcomeOf, giveOf};
 
 mod events; // an accepted event, by its kind
@@ -114,41 +113,6 @@ pub fn step(
         r
         ⌝ }
 {
-    give(
-        counts,
-        stored,
-        logged,
-        opened,
-        closed,
-        written,
-        backed,
-        false,
-        r,
-    )
-}
-
-// The same for tables that may be known to agree: then an end passes over the lines that were not stored to since the begin.
-pub(crate) fn give(
-    counts: Counts,
-    stored: &mut [u16; 4096],
-    logged: &mut [u16; 4096],
-    opened: &mut [u16; 4096],
-    closed: &mut [u16; 4096],
-    written: &mut [u16; 64],
-    backed: &mut [u16; 64],
-    marked: bool,
-    r: Record,
-) -> Stepped
-    requires { ⌜ ((marked ≡ true) → Marked (now stored) (now written)) ⌝ }
-    ensures { λ s. ⌜
-        outcomeOf s (now (stored .exit)) (now (logged .exit)) (now (opened .exit)) (now (closed .exit))
-        (now (written .exit)) (now (backed .exit)) ≡
-        giveOf
-        (runOf counts (now (stored .entry)) (now (logged .entry)) (now (opened .entry)) (now (closed .entry))
-        (now (written .entry)) (now (backed .entry)))
-        r
-        ⌝ }
-{
     let e = r.event;
     match limits::check_event(lines_of(counts), counts.events, counts.depth, e) {
         Check::Refused(x) => {
@@ -159,17 +123,7 @@ pub(crate) fn give(
             }
         }
         Check::Passed => {
-            events::accept(
-                counts,
-                stored,
-                logged,
-                opened,
-                closed,
-                written,
-                backed,
-                marked,
-                e,
-            )
+            events::accept(counts, stored, logged, opened, closed, written, backed, e)
         }
     }
 }

@@ -22,11 +22,11 @@ entry-run s =
 
 -- one more event has a number
 room : (s : tie.Start) → s .args .counts .events < 65535
-room s = passes (s .args .counts) (s .args .e) (s .pre .0) .room
+room s = passes (s .args .counts) (s .args .e) (s .pre) .room
 
 -- and the event's first range is within the tables
 one-range : (s : tie.Start) (a : Range) (rest : List Range) → rangesOf (s .args .e) ≡ a ∷ rest → (s .args .counts .events < 65535) × (rangeEnd a ≤ 4096)
-one-range s a rest k = (room s, first-range (s .args .counts) (s .args .e) a rest k (s .pre .0))
+one-range s a rest k = (room s, first-range (s .args .counts) (s .args .e) a rest k (s .pre))
 
 enum-known-e : tie.Need-enum-known-e
 enum-known-e c = search needs
@@ -50,7 +50,7 @@ enum-told-2 : tie.Need-enum-told-2
 enum-told-2 c = search needs
 
 begin-requires : tie.Need-begin-requires
-begin-requires c κs = let s = c .before .before in let k = s .args .counts in (room s, begin-below (linesOf k) (k .events) (k .depth) (rw (c .enum-told2 .given .1) at (s .pre .0)))
+begin-requires c κs = let s = c .before .before in let k = s .args .counts in (room s, begin-below (linesOf k) (k .events) (k .depth) (rw (c .enum-told2 .given .1) at (s .pre)))
 
 enum-known-e-3 : tie.Need-enum-known-e-3
 enum-known-e-3 c = search needs
@@ -62,7 +62,7 @@ enum-told-3 : tie.Need-enum-told-3
 enum-told-3 c = search needs
 
 end-requires : tie.Need-end-requires
-end-requires c κs = let t = c .before .before .before in let s = t .before .before in let k = s .args .counts in (room s, end-inside (linesOf k) (k .events) (k .depth) (rw (t .enum-told3 .given .1) at (s .pre .0)), s .pre .1)
+end-requires c κs = let t = c .before .before .before in let s = t .before .before in let k = s .args .counts in (room s, end-inside (linesOf k) (k .events) (k .depth) (rw (t .enum-told3 .given .1) at (s .pre)))
 
 enum-known-e-4 : tie.Need-enum-known-e-4
 enum-known-e-4 c = search needs
@@ -74,7 +74,7 @@ enum-known-e-5 : tie.Need-enum-known-e-5
 enum-known-e-5 c = search needs
 
 ordered-requires : tie.Need-ordered-requires
-ordered-requires c κs = let k = c .before .before .before .before in let s = k .before .before in let two = ap rangesOf (k .e5 .given .1) in let one = one-range s _ _ two in (one .0, one .1, second-range (s .args .counts) (s .args .e) _ _ two (s .pre .0))
+ordered-requires c κs = let k = c .before .before .before .before in let s = k .before .before in let two = ap rangesOf (k .e5 .given .1) in let one = one-range s _ _ two in (one .0, one .1, second-range (s .args .counts) (s .args .e) _ _ two (s .pre))
 
 returns : tie.Need-returns
 returns c = let k = c .before .before .before .before .before .before .before in let t = c .store .ensures in store-taken (entry-run (k .before .before)) (k .e .given .1) (t .0) (t .1 .0) (t .1 .1 .0) (t .1 .1 .1 .0) (t .1 .1 .1 .1)
