@@ -38,16 +38,16 @@ same-interval {h = h} t b = rw (t .stored b, t .opened b, t .closed b) (interval
 line-since : (h : History) (n b : ℕ) → (ltb n (last (is (storesLine (lineOf b)) h) (length h)) && ltb n (lastStore h b)) ≡ ltb n (lastStore h b)
 line-since h n b = go (ltb n (lastStore h b)) refl
   where
+    neither : (t : Bool) → (t && false) ≡ false
+    neither true = refl
+    neither false = refl
+
     go : (t : Bool) → ltb n (lastStore h b) ≡ t → (ltb n (last (is (storesLine (lineOf b)) h) (length h)) && t) ≡ t
     go true e =
         let later : n < lastStore h b = ltb-true n (lastStore h b) e in
         let on-line = is-latest (storesLine (lineOf b)) h (lastStore h b) (last-store-on-line h b (λ z. omega arith)) in
         rw (lt-ltb n (last (is (storesLine (lineOf b)) h) (length h)) (omega (arith, later, on-line)))
-    go false e = none (ltb n (last (is (storesLine (lineOf b)) h) (length h)))
-
-    none : (t : Bool) → (t && false) ≡ false
-    none true = refl
-    none false = refl
+    go false e = neither (ltb n (last (is (storesLine (lineOf b)) h) (length h)))
 
 same-since : {lines : ℕ} {h : History} {run : Run} → Tracks lines h run → (b : ℕ) → ofRun run .storedSince b ≡ ofHistory lines h .storedSince b
 same-since {h = h} t b = rw (t .began, t .written (lineOf b), t .stored b) (line-since h (outermost h) b)
