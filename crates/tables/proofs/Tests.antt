@@ -1,6 +1,6 @@
 -- The tests that the code makes on the tables are those that a judge makes of the run.
 use mathlib.Core.Path.{_≡_, refl, sym, fun-ext}
-use mathlib.Core.Bool.{Bool, true, false, cond, not, _&&_, _||_}
+use mathlib.Core.Bool.{Bool, true, false, cond, not, _&&_, _||_, or-false}
 use mathlib.Core.Logic.{_≢_}
 use mathlib.Core.List.{List, []}
 use mathlib.Core.Option.{Option, none, some}
@@ -38,10 +38,14 @@ open-or-later s o (suc k) e = rw (ne-eqb (suc k) 0 (λ z. absurd (omega arith)))
     go true h = sym (le-ltb e (suc k) (leb-true (suc k) e h))
     go false h = sym (lt-ltb e (suc k) (leb-false (suc k) e h))
 
--- a later store is a store
-pub later-store : (n s : ℕ) → ltb n s ≡ (not (eqb s 0) && ltb n s)
-later-store n zero = le-ltb n 0 (omega arith)
-later-store n (suc s) = rw (ne-eqb (suc s) 0 (λ z. absurd (omega arith)))
+-- the test of a pair, with no branch: a later store is a store
+pub no-branch : (ks ls : ℕ) (one : Bool) (opened closed : ℕ) →
+    not (eqb ks 0) && (one && ltb ks ls || not one && (not (eqb ls 0) && (eqb closed 0 || ltb opened closed))) ≡ isBroken ks ls one opened closed
+no-branch zero ls one opened closed = refl
+no-branch (suc ks) ls false opened closed = rw (ne-eqb (suc ks) 0 (λ z. absurd (omega arith)))
+no-branch (suc ks) zero true opened closed = rw (ne-eqb (suc ks) 0 (λ z. absurd (omega arith)), le-ltb (suc ks) 0 (omega arith))
+no-branch (suc ks) (suc ls) true opened closed =
+    rw (ne-eqb (suc ks) 0 (λ z. absurd (omega arith)), ne-eqb (suc ls) 0 (λ z. absurd (omega arith))) (or-false (ltb (suc ks) (suc ls)))
 
 -- no pair breaks whose kept byte was never stored to
 pub never-broken : (stored opened closed : List ℕ) (kept : ℕ) → entry stored kept ≡ 0 → (lost : ℕ) → brokenPair stored opened closed kept lost ≡ false

@@ -81,10 +81,13 @@ isBroken keptStore lostStore oneLine opened closed =
     not (eqb keptStore 0) && not (eqb lostStore 0) &&
     cond oneLine (ltb keptStore lostStore) (eqb closed 0 || ltb opened closed)
 
+-- it may lose this byte and keep one of this line, with this last store and opening epoch
+abbrev pub lostWith : (stored closed : List ℕ) → (store opened line lost : ℕ) → Bool
+lostWith stored closed store opened line lost = isBroken store (entry stored lost) (eqb line (lineOf lost)) opened (entry closed lost)
+
 -- the two bytes are so
 abbrev pub brokenPair : (stored opened closed : List ℕ) → ℕ → ℕ → Bool
-brokenPair stored opened closed kept lost =
-    isBroken (entry stored kept) (entry stored lost) (eqb (lineOf kept) (lineOf lost)) (entry opened kept) (entry closed lost)
+brokenPair stored opened closed kept = lostWith stored closed (entry stored kept) (entry opened kept) (lineOf kept)
 
 -- the closing epoch of a byte after a fence that begins this epoch, where its line was last written back at `back`
 abbrev pub closedNow : ℕ → ℕ → ℕ → ℕ → ℕ

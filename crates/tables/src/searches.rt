@@ -8,7 +8,7 @@ ghost use Prim.Native.Nat.{_+_, _/_, _≤_};
 ghost use Rattle.event.specs.Window.{rangeEnd};
 ghost use lib.ListN.{length};
 ghost use Rattle.history.specs.Found.{lowest, lowestPair};
-ghost use Rattle.tables.specs.Tests.{searched, pairSearched, isFound, passesBy, passing, skipped, isBroken, brokenPair};
+ghost use Rattle.tables.specs.Tests.{searched, pairSearched, isFound, passesBy, passing, skipped, isBroken, lostWith, brokenPair};
 
 // Whether the entries of a byte or a line in two tables are what the test looks for.
 fn passes(test: Test, x: u16, y: u16) -> bool
@@ -105,20 +105,60 @@ pub(crate) fn first_open(
     first(Test::OpenSince(event), stored, closed, b, end - b)
 }
 
-// Whether a crash may keep one byte and lose another.
+// Whether a crash may keep one byte and lose another. There is no branch, so that several bytes can be looked at at once.
 fn is_broken(kept_store: u16, lost_store: u16, one_line: bool, opened: u16, closed: u16) -> bool
     ensures { λ r. ⌜ r ≡ isBroken «kept_store» «lost_store» «one_line» opened closed ⌝ }
 {
-    if kept_store == 0 {
-        return false;
+    let later = kept_store < lost_store; // a later store is no 0
+    let open = (lost_store != 0) & ((closed == 0) | (opened < closed));
+    (kept_store != 0) & ((one_line & later) | (!one_line & open))
+}
+
+// Whether a crash may lose one of the n bytes from `at` on and keep a byte of this line, with this last store and opening epoch.
+fn any_lost(
+    stored: &[u16; 4096],
+    closed: &[u16; 4096],
+    store: u16,
+    opened: u16,
+    line: u16,
+    at: usize,
+    n: usize,
+) -> bool
+    requires { ⌜ at + n ≤ 4096 ⌝ }
+    ensures { λ r. ⌜ r ≡ isFound (lowest (lostWith (now (stored .entry)) (now (closed .entry)) store opened line) at n) ⌝ }
+{
+    let mut found = false;
+    let mut i = 0;
+    while i < n {
+        let b = at + i;
+        found = found | is_broken(store, stored[b], line == (b as u16) / 64, opened, closed[b]);
+        i += 1;
     }
-    if one_line {
-        return kept_store < lost_store; // a later store is no 0
+    found
+}
+
+// The place after the eights in front in which a crash may lose no such byte, of the n from `at` on.
+fn skip_lost(
+    stored: &[u16; 4096],
+    closed: &[u16; 4096],
+    store: u16,
+    opened: u16,
+    line: u16,
+    at: usize,
+    n: usize,
+) -> usize
+    requires { ⌜ at + n ≤ 4096 ⌝ }
+    ensures { λ r. ⌜ r ≡ skipped (lostWith (now (stored .entry)) (now (closed .entry)) store opened line) at (n / 8) ⌝ }
+{
+    let end = at + n;
+    let mut b = at;
+    while b + 8 <= end {
+        if any_lost(stored, closed, store, opened, line, b, 8) {
+            return b;
+        }
+        b += 8;
     }
-    if lost_store == 0 {
-        return false;
-    }
-    closed == 0 || opened < closed
+    b
 }
 
 // The lowest byte of B that a crash may keep while it loses one of A, and the lowest that it loses with it.
@@ -150,7 +190,15 @@ pub(crate) fn first_pair(
         if store != 0 {
             let epoch = opened[kept];
             let line = kept / 64;
-            let mut lost = lost_start;
+            let mut lost = skip_lost(
+                stored,
+                closed,
+                store,
+                epoch,
+                line as u16,
+                lost_start,
+                a.length as usize,
+            );
             while lost < lost_end {
                 if is_broken(store, stored[lost], line == lost / 64, epoch, closed[lost]) {
                     found = PairSearch::At {
