@@ -116,7 +116,6 @@ pub(crate) fn judge_records(records: &[u8], count: u32, lines: u16, buffer: &mut
     let mut i: u32 = 0;
     while i < count {
         let number = i + 1;
-        let p = records::record_at(records, i);
         let at = 12 * (i as usize);
         let s = judge_record(
             counts,
@@ -126,28 +125,24 @@ pub(crate) fn judge_records(records: &[u8], count: u32, lines: u16, buffer: &mut
             &mut closed,
             &mut written,
             &mut backed,
-            p,
+            records::record_at(records, i),
             at,
             buffer,
         );
         let answer = s.answer;
         counts = s.counts;
         match answer {
-            Answer::Refused(x) => {
-                return Judged {
-                    check: TraceCheck::Refused {
-                        refusal: x,
-                        record: number,
-                    },
-                    counts,
+            Answer::Refused(refusal) => {
+                let check = TraceCheck::Refused {
+                    refusal,
+                    record: number,
                 };
+                return Judged { check, counts };
             }
             Answer::Found(_) => {}
         }
         i = number;
     }
-    Judged {
-        check: close(counts.depth),
-        counts,
-    }
+    let check = close(counts.depth);
+    Judged { check, counts }
 }

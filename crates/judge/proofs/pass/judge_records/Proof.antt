@@ -38,14 +38,14 @@ loop-holds c = (omega arith, omega arith, rw (c .no-counts .ensures))
 add-number : tie.Need-add-number Inv-loop μ-loop
 add-number c = search needs
 
-record-at-requires : tie.Need-record-at-requires Inv-loop μ-loop
-record-at-requires c κs = search needs
-
 cast-at : tie.Need-cast-at Inv-loop μ-loop
 cast-at c = search needs
 
 mul-at : tie.Need-mul-at Inv-loop μ-loop
 mul-at c = search needs
+
+record-at-requires : tie.Need-record-at-requires Inv-loop μ-loop
+record-at-requires c κs = search needs
 
 judge-record-requires : tie.Need-judge-record-requires Inv-loop μ-loop
 judge-record-requires c κs = omega arith
@@ -59,8 +59,9 @@ same-length c = search needs
 returns : tie.Need-returns Inv-loop μ-loop
 returns c =
     let given = c .before .before .before .before .before .before .judge-record in
-    let w = c .before .before .before .before .before .before .before .before .before .before .before .before .before .before in
-    let l = w .before .before in
+    let w = c .before .before .before .before .before .before .before .before in
+    let turn = w .before .before .before .before .before .before .before in
+    let l = turn .before in
     let k = l .before .before .before .before .args in
     let all =
     refused-here (k .records .now) (k .count) (l .loop .i) (passed l) (omega arith) (w .record-at .ensures) (given .ensures .0) (given .ensures .1)
@@ -76,8 +77,9 @@ loop-less c = search needs
 loop-again : tie.Need-loop-again Inv-loop μ-loop
 loop-again c =
     let given = c .before .before .before .before .before .judge-record in
-    let w = c .before .before .before .before .before .before .before .before .before .before .before .before .before in
-    let l = w .before .before in
+    let w = c .before .before .before .before .before .before .before in
+    let turn = w .before .before .before .before .before .before .before in
+    let l = turn .before in
     let k = l .before .before .before .before .args in (
       omega arith,
       given .kept .1 .1 .1 .1 .1 .1 .1 .1 .1 .0 ∙ l .loop .inv .1,
@@ -108,9 +110,9 @@ judge-records-spec =
     no-counts-requires
     loop-holds
     add-number
-    record-at-requires
     cast-at
     mul-at
+    record-at-requires
     judge-record-requires
     enum-known-answer
     same-length
