@@ -1,7 +1,7 @@
 //! How the time to judge a trace grows with its records and with the bytes that they name.
 
 use crate::bench::{best_times, how_measured, number, ratio, thousands, CHECKERS};
-use crate::workloads::{large_ordered, large_persisted, random_events, trace_of};
+use crate::workloads::{durable_rounds, large_ordered, large_persisted, random_events, trace_of};
 use reference::random::{Mix, Random};
 use reference::{Event, Range};
 
@@ -25,7 +25,7 @@ pub fn command() -> String {
         + &tables.collect::<String>()
 }
 
-fn series() -> [Series; 4] {
+fn series() -> [Series; 5] {
     let block = block_of_85();
     [
         Series {
@@ -46,6 +46,11 @@ fn series() -> [Series; 4] {
             traces: growing(64, 4_096, |bytes| {
                 vec![Event::Store(Range::new(0, bytes)); 100]
             }),
+        },
+        Series {
+            title: "100 times a store, its write-back and a fence",
+            size: "Bytes of each",
+            traces: growing(64, 4_096, |bytes| durable_rounds(bytes, 100)),
         },
         Series {
             title: "One ordered that holds",

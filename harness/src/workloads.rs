@@ -50,7 +50,7 @@ pub fn all() -> Vec<Workload> {
         Workload::new(
             "many fences",
             "64 lines stored to and written back before each fence",
-            many_fences(1_500),
+            durable_rounds(WINDOW, 1_500),
         ),
         Workload::new(
             "random mixes",
@@ -138,8 +138,9 @@ pub fn large_ordered(bytes: u16, count: usize) -> Vec<Event> {
     events
 }
 
-fn many_fences(count: usize) -> Vec<Event> {
-    let rounds = std::iter::repeat_n(durable(Range::new(0, WINDOW)), count);
+/// So many bytes stored to, written back and fenced, so many times.
+pub fn durable_rounds(bytes: u16, count: usize) -> Vec<Event> {
+    let rounds = std::iter::repeat_n(durable(Range::new(0, bytes)), count);
     rounds.flatten().collect()
 }
 
