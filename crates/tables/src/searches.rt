@@ -78,7 +78,8 @@ pub(crate) fn first(test: Test, xs: &[u16], ys: &[u16], at: usize, n: usize) -> 
     scan(test, xs, ys, b, at + n - b)
 }
 
-// The lowest of the n bytes from `at` on with a store after an event and no closing epoch. Lines without an open byte are passed over.
+// The lowest of the n bytes from `at` on with a store after an event and no closing epoch; 64 bytes of which none is open are passed
+// over at once.
 pub(crate) fn first_open(
     event: u16,
     stored: &[u16; 4096],
