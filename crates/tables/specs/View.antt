@@ -34,7 +34,7 @@ limitsOf counts = numbersOf (linesOf counts) (counts .events) (counts .depth)
 abbrev pub intervalFrom : ℕ → ℕ → ℕ → Interval
 intervalFrom store opened closed = ifSome store None (λ s. ifSome closed (Open opened) (Closed opened))
 
--- where the line was not stored to since the begin, its bytes are not looked at
+-- the answers of a run; whether a byte was stored to since the begin is asked of its line first, and then of the byte
 abbrev pub ofRun : Run → View
 ofRun run =
     record {
