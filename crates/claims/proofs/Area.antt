@@ -9,14 +9,14 @@ use Rattle.event.specs.declared.Record.{Record as Event}
 use Rattle.event.specs.declared.Finding.{Finding}
 use Rattle.event.specs.declared.Parsed.{Parsed}
 use Rattle.event.specs.declared.Parsed.the-variants.{Record}
-use Rattle.codec.specs.Codec.{findingBytes}
+use Rattle.codec.specs.Codec.{findingBytes, findingSize}
 use Rattle.history.specs.History.{History}
 use Rattle.history.specs.View.{ofHistory}
 use Rattle.history.specs.Found.{findingBy}
 use Rattle.history.specs.Given.{Accepted, accepted, answers}
 use Rattle.history.proofs.Given.{answer-found}
 use Rattle.trace.specs.Records.{eventsOf}
-use Rattle.judge.specs.Verdict.{findingSize, findingsBytes}
+use Rattle.judge.specs.Verdict.{findingsBytes}
 use Rattle.claims.specs.Traces.{Takes}
 
 -- records that are all taken are events

@@ -17,7 +17,7 @@ use Rattle.event.specs.declared.Check.the-variants.{Passed, Refused as Breaks}
 use Rattle.event.specs.declared.Finding.{Finding}
 use Rattle.event.specs.declared.Answer.the-variants.{Found}
 use Rattle.event.specs.declared.Parsed.the-variants.{Record}
-use Rattle.codec.specs.Codec.{findingBytes}
+use Rattle.codec.specs.Codec.{findingBytes, findingSize}
 use Rattle.event.specs.Window.{linesCheck}
 use Rattle.history.specs.History.{History}
 use Rattle.history.specs.Interval.{epochAt}
@@ -35,7 +35,7 @@ use Rattle.trace.specs.Records.{recordPart, linesIn, recordsIn, eventsIn}
 use Rattle.trace.proofs.Lines.{window-lines}
 use Rattle.trace.proofs.RecordsNext.{records-counted}
 use Rattle.judge.specs.declared.Verdict.the-variants.{Refused as RefusedAt, Accepted as Totalled}
-use Rattle.judge.specs.Verdict.{findingSize, areaSize, traceLimits, traceCheck, historyOf, answersOf, verdictOf, findingsBytes, areaAfter}
+use Rattle.judge.specs.Verdict.{areaSize, traceLimits, traceCheck, historyOf, answersOf, verdictOf, findingsBytes, areaAfter}
 use Rattle.judge.proofs.Outcome.{totalled, area-holds}
 use Rattle.claims.specs.After.{runFrom}
 use Rattle.claims.specs.Traces.{Takes, GivenSingly}

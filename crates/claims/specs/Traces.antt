@@ -10,7 +10,7 @@ use Rattle.event.specs.declared.Check.the-variants.{Passed}
 use Rattle.event.specs.declared.Answer.the-variants.{Found}
 use Rattle.event.specs.declared.Parsed.{Parsed}
 use Rattle.event.specs.declared.Parsed.the-variants.{Record, Refused as Unread}
-use Rattle.codec.specs.Codec.{findingBytes}
+use Rattle.codec.specs.Codec.{findingBytes, findingSize}
 use Rattle.history.specs.History.{History}
 use Rattle.history.specs.Given.{RefusedBy, Accepted}
 use Rattle.tables.specs.Give.{giveOf}
@@ -18,7 +18,7 @@ use Rattle.engine.specs.declared.Closing.the-variants.{Totals}
 use Rattle.engine.specs.Call.{freshOf, closeOf}
 use Rattle.trace.specs.Records.{linesIn, recordsIn, eventsIn}
 use Rattle.judge.specs.declared.Verdict.the-variants.{Refused}
-use Rattle.judge.specs.Verdict.{findingSize, areaSize, verdictOf, areaAfter}
+use Rattle.judge.specs.Verdict.{areaSize, verdictOf, areaAfter}
 use Rattle.claims.specs.After.{runFrom}
 
 -- of the records from number n on, after the history, number m is the first that is refused, and x refuses it

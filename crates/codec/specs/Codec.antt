@@ -15,6 +15,13 @@ use Rattle.event.specs.declared.Parsed.the-variants.{Record, Refused}
 use Rattle.event.specs.Numbers.{kindOf, fieldsWith, fieldsOf}
 use Rattle.event.specs.Window.{rangesOf}
 
+-- a record has 12 bytes, and so has a finding
+abbrev pub recordSize : ℕ
+recordSize = 12
+
+abbrev pub findingSize : ℕ
+findingSize = 12
+
 -- the u16 at a place of the bytes; bytes past their end count as 0
 abbrev pub u16At : List ℕ → ℕ → ℕ
 u16At s at = getD s at 0 + 256 * getD s (at + 1) 0

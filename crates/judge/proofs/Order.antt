@@ -23,7 +23,8 @@ use Rattle.trace.specs.Records.{linesIn, recordsIn}
 use Rattle.trace.specs.Checked.{unlessBroken, checkAll}
 use Rattle.trace.proofs.Lines.{window-lines, few-lines}
 use Rattle.trace.proofs.KnownBytes.{opened}
-use Rattle.judge.specs.Verdict.{findingSize, areaSize, areaLimits, traceLimits, traceCheck}
+use Rattle.judge.specs.Verdict.{areaSize, areaLimits, traceLimits, traceCheck}
+use Rattle.codec.specs.Codec.{findingSize}
 
 -- the first of more limits that is broken is the first of the first ones, if one of those is broken
 broken-first : (xs ys : List Limit) {x : Refusal} → firstBroken xs ≡ Breaks x → firstBroken (xs ++ ys) ≡ Breaks x

@@ -17,7 +17,8 @@ use Rattle.trace.specs.Records.{recordPart, recordsOf, linesIn, recordsIn, even
 use Rattle.trace.proofs.RecordsNext.{records-counted}
 use Rattle.trace.proofs.KnownBytes.{opened}
 use Rattle.judge.specs.declared.Verdict.the-variants.{Refused, Accepted}
-use Rattle.judge.specs.Verdict.{findingSize, areaSize, traceCheck, historyOf, answersOf, verdictOf, findingsBytes, areaAfter}
+use Rattle.judge.specs.Verdict.{areaSize, traceCheck, historyOf, answersOf, verdictOf, findingsBytes, areaAfter}
+use Rattle.codec.specs.Codec.{findingSize}
 use Rattle.judge.specs.Pass.{stage, Ended, recordsJudged, verdictFrom, verdictBy, areaFrom, areaBy}
 use Rattle.judge.proofs.Whole.{Judged, judged-check, judged}
 use Rattle.judge.proofs.Order.{records-decide, window-fits}

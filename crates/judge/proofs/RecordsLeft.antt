@@ -9,12 +9,10 @@ use Rattle.event.specs.declared.Finding.{Finding}
 use Rattle.event.specs.declared.Answer.{Answer}
 use Rattle.event.specs.declared.Answer.the-variants.{Refused, Found}
 use Rattle.event.specs.declared.Parsed.{Parsed}
-use Rattle.codec.specs.Codec.{parsed}
+use Rattle.codec.specs.Codec.{parsed, findingSize, recordSize}
 use Rattle.trace.specs.declared.TraceCheck.the-variants.{Refused as RefusedAt}
-use Rattle.trace.specs.Trailer.{recordSize}
 use Rattle.trace.specs.Records.{recordsOf}
 use Rattle.trace.proofs.RecordsNext.{records-next}
-use Rattle.judge.specs.Verdict.{findingSize}
 use Rattle.judge.specs.Pass.{Stage, recordAnswer, recordGiven, Ended, ended, closing, recordsJudged}
 
 -- where the records after the first i lead

@@ -14,7 +14,7 @@ use Rattle.event.specs.declared.Check.the-variants.{Passed as Fits, Refused as 
 use Rattle.event.specs.declared.Answer.the-variants.{Refused, Found}
 use Rattle.event.specs.declared.Parsed.{Parsed}
 use Rattle.event.specs.declared.Parsed.the-variants.{Record, Refused as Unread}
-use Rattle.codec.specs.Codec.{findingBytes}
+use Rattle.codec.specs.Codec.{findingBytes, findingSize}
 use Rattle.event.specs.Window.{mostLines}
 use Rattle.history.specs.History.{History}
 use Rattle.history.specs.Interval.{epochAt}
@@ -36,7 +36,7 @@ use Rattle.trace.specs.declared.TraceCheck.the-variants.{Passed}
 use Rattle.trace.specs.Records.{eventsOf}
 use Rattle.trace.specs.Checked.{unlessBroken, checkFrom, checkAll}
 use Rattle.judge.specs.Pass.{placed, Stage, stage, recordAnswer, recordsJudged}
-use Rattle.judge.specs.Verdict.{findingSize, findingsBytes}
+use Rattle.judge.specs.Verdict.{findingsBytes}
 use Rattle.judge.proofs.Placed.{placed-length, both-placed}
 
 -- where a check and the rest after it pass, both do

@@ -10,14 +10,13 @@ use Rattle.event.specs.declared.Answer.{Answer}
 use Rattle.event.specs.declared.Answer.the-variants.{Refused, Found}
 use Rattle.event.specs.declared.Parsed.{Parsed}
 use Rattle.event.specs.declared.Parsed.the-variants.{Record, Refused as Unread}
-use Rattle.codec.specs.Codec.{findingBytes}
+use Rattle.codec.specs.Codec.{findingBytes, findingSize}
 use Rattle.tables.specs.declared.Run.{Run}
 use Rattle.tables.specs.Give.{giveOf}
 use Rattle.trace.specs.declared.TraceCheck.{TraceCheck}
 use Rattle.trace.specs.declared.TraceCheck.the-variants.{Passed, Refused as RefusedAt}
 use Rattle.judge.specs.declared.Verdict.{Verdict}
 use Rattle.judge.specs.declared.Verdict.the-variants.{Refused as Refuses, Accepted}
-use Rattle.judge.specs.Verdict.{findingSize}
 
 -- the buffer with these bytes at a place
 abbrev pub placed : ℕ → List ℕ → List ℕ → List ℕ

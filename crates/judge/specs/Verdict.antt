@@ -8,7 +8,7 @@ use Rattle.event.specs.declared.Record.{Record}
 use Rattle.event.specs.declared.Refusal.the-variants.{AreaTooShort}
 use Rattle.event.specs.declared.Answer.{Answer}
 use Rattle.event.specs.declared.Answer.the-variants.{Refused as NoFinding, Found}
-use Rattle.codec.specs.Codec.{findingBytes}
+use Rattle.codec.specs.Codec.{findingSize, findingBytes}
 use Rattle.history.specs.History.{History}
 use Rattle.history.specs.Interval.{epochAt}
 use Rattle.history.specs.Refused.{Limit, limit, firstBroken}
@@ -21,10 +21,7 @@ use Rattle.trace.specs.Checked.{unlessBroken, checkAll}
 use Rattle.judge.specs.declared.Verdict.{Verdict}
 use Rattle.judge.specs.declared.Verdict.the-variants.{Refused, Accepted}
 
--- a finding has 12 bytes, and the findings area takes 12 times the count
-abbrev pub findingSize : ℕ
-findingSize = 12
-
+-- the findings area takes 12 times the count
 abbrev pub areaSize : List ℕ → ℕ
 areaSize trace = findingSize * trailerOf trace .count
 

@@ -10,7 +10,8 @@ ghost use Prim.Native.Nat.{_*_, _≤_};
 ghost use lib.ListN.{length, take, drop};
 ghost use Rattle.engine.specs.Call.{emptyRun};
 ghost use Rattle.trace.specs.Records.{recordsOf};
-ghost use Rattle.judge.specs.Verdict.{findingSize, verdictOf, areaAfter};
+ghost use Rattle.judge.specs.Verdict.{verdictOf, areaAfter};
+ghost use Rattle.codec.specs.Codec.{findingSize};
 ghost use Rattle.judge.specs.Pass.{stage, recordsJudged, verdictBy, areaBy};
 
 mod pass; // the records of an accepted trace, given one after another

@@ -14,7 +14,7 @@ ghost use lib.ListN.{length};
 ghost use Rattle.tables.specs.View.{runOf};
 ghost use Rattle.engine.specs.Call.{emptyRun};
 ghost use Rattle.trace.specs.Records.{recordsOf};
-ghost use Rattle.judge.specs.Verdict.{findingSize};
+ghost use Rattle.codec.specs.Codec.{findingSize};
 ghost use Rattle.judge.specs.Pass.{placed, stage, recordAnswer, recordGiven, recordsJudged};
 
 // What the records lead to: whether one of them is refused, or the closing, and the numbers of the run then.

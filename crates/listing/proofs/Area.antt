@@ -14,7 +14,7 @@ use Rattle.event.specs.declared.Answer.the-variants.{Found}
 use Rattle.event.specs.declared.Parsed.{Parsed}
 use Rattle.event.specs.declared.Parsed.the-variants.{Record, Refused as Unread}
 use Rattle.event.specs.Numbers.{fieldsOf}
-use Rattle.codec.specs.Codec.{u16At, findingBytes, fieldsAt}
+use Rattle.codec.specs.Codec.{u16At, findingBytes, fieldsAt, findingSize}
 use Rattle.codec.proofs.Meaning.{u16-round-trip}
 use Rattle.history.specs.History.{History}
 use Rattle.history.specs.View.{ofHistory}
@@ -28,7 +28,7 @@ use Rattle.trace.specs.Trailer.{mostBytes, trailerOf, endOf}
 use Rattle.trace.specs.Records.{recordPart, eventsOf, linesIn, recordsIn, eventsIn}
 use Rattle.trace.specs.Checked.{checkFrom, checkAll}
 use Rattle.trace.proofs.RecordsNext.{records-counted}
-use Rattle.judge.specs.Verdict.{findingSize, findingsBytes, areaSize, traceLimits, traceCheck, historyOf, answersOf, areaAfter}
+use Rattle.judge.specs.Verdict.{findingsBytes, areaSize, traceLimits, traceCheck, historyOf, answersOf, areaAfter}
 use Rattle.judge.proofs.Whole.{unless-passed}
 use Rattle.judge.proofs.Outcome.{area-holds}
 use Rattle.listing.specs.Lines.{findingLine}

@@ -5,8 +5,7 @@ use mathlib.Core.List.{List}
 use Prim.Native.Nat.{ℕ, suc, _+_, _-_, _*_, _≤_, _<_}
 use native.Mathlib.Omega.{arith}
 use Rattle.event.specs.declared.Fields.{Fields}
-use Rattle.codec.specs.Codec.{u16At, fieldsAt}
-use Rattle.judge.specs.Verdict.{findingSize}
+use Rattle.codec.specs.Codec.{u16At, fieldsAt, findingSize}
 use Rattle.listing.specs.Text.{Out, put}
 use Rattle.listing.specs.Lines.{isPrinted, columns, findingLine}
 use Rattle.listing.specs.Area.{lineAt, linesFrom}

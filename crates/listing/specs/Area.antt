@@ -1,8 +1,7 @@
 -- The finding lines of an area, as the code reads them.
 use mathlib.Core.List.{List, [], _++_}
 use Prim.Native.Nat.{ℕ, zero, suc, _+_, _*_}
-use Rattle.codec.specs.Codec.{u16At, fieldsAt}
-use Rattle.judge.specs.Verdict.{findingSize}
+use Rattle.codec.specs.Codec.{u16At, fieldsAt, findingSize}
 use Rattle.listing.specs.Lines.{findingLine}
 
 -- the line of the finding with so many before it

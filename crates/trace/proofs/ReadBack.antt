@@ -13,7 +13,8 @@ use Rattle.codec.proofs.Meaning.{u16-round-trip}
 use Rattle.codec.proofs.RoundTrip.{read-back}
 use Rattle.trace.specs.declared.Trailer.{Trailer}
 use Rattle.trace.specs.declared.Opened.the-variants.{Known}
-use Rattle.trace.specs.Trailer.{trailerSize, recordSize, mostBytes, u32At, trailerBytes, trailerFrom, trailerOf, sameBytes, openedOf}
+use Rattle.trace.specs.Trailer.{trailerSize, mostBytes, u32At, trailerBytes, trailerFrom, trailerOf, sameBytes, openedOf}
+use Rattle.codec.specs.Codec.{recordSize}
 use Rattle.trace.specs.Records.{recordPart, recordsOf, eventsOf, linesIn, recordsIn, eventsIn}
 use Rattle.trace.specs.Layout.{u32Bytes, recordsBytes, trailerWith, traceBytes}
 use Rattle.trace.proofs.Parts.{last-part, middle-part}

@@ -8,7 +8,7 @@ use Rattle.event.specs.declared.Refusal.the-variants.{TraceTooShort, TraceTooLo
 use Rattle.event.specs.declared.Check.{Check}
 use Rattle.event.specs.declared.Check.the-variants.{Passed, Refused as Breaks}
 use Rattle.event.specs.Window.{badLines}
-use Rattle.codec.specs.Codec.{u16At}
+use Rattle.codec.specs.Codec.{recordSize, u16At}
 use Rattle.history.specs.Refused.{Limit, limit, firstBroken}
 use Rattle.trace.specs.declared.Trailer.{Trailer}
 use Rattle.trace.specs.declared.Opened.{Opened}
@@ -20,10 +20,6 @@ trailerSize = 16
 
 abbrev pub mostBytes : ℕ
 mostBytes = 65536
-
--- a record has 12 bytes
-abbrev pub recordSize : ℕ
-recordSize = 12
 
 -- the mark: the four bytes P T R A (50h 54h 52h 41h)
 abbrev pub mark : List ℕ

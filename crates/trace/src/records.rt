@@ -3,8 +3,7 @@ use event::Parsed;
 ghost use mathlib.Core.Path.{_≡_};
 ghost use Prim.Native.Nat.{_*_};
 ghost use lib.ListN.{drop};
-ghost use Rattle.codec.specs.Codec.{parsed};
-ghost use Rattle.trace.specs.Trailer.{recordSize};
+ghost use Rattle.codec.specs.Codec.{parsed, recordSize};
 ghost use Rattle.trace.specs.Records.{recordPart};
 
 // The bytes from the offset up to the trailer; none where the offset is past them.

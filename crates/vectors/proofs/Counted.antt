@@ -8,7 +8,8 @@ use Rattle.event.specs.declared.Refusal.{Refusal}
 use Rattle.event.specs.Numbers.{numberOf}
 use Rattle.judge.specs.declared.Verdict.{Verdict}
 use Rattle.judge.specs.declared.Verdict.the-variants.{Refused, Accepted}
-use Rattle.judge.specs.Verdict.{findingSize, verdictOf, areaAfter}
+use Rattle.judge.specs.Verdict.{verdictOf, areaAfter}
+use Rattle.codec.specs.Codec.{findingSize}
 use Rattle.vectors.specs.Tally.{counted, placeOf, kindsFrom, kindsIn}
 
 -- the kinds from one finding on: its kind, and then those after it

@@ -5,7 +5,7 @@ use lib.ListN.{getD, set}
 use Rattle.event.specs.Numbers.{numberOf}
 use Rattle.judge.specs.declared.Verdict.{Verdict}
 use Rattle.judge.specs.declared.Verdict.the-variants.{Refused, Accepted}
-use Rattle.judge.specs.Verdict.{findingSize}
+use Rattle.codec.specs.Codec.{findingSize}
 
 -- one more at a place; 32 bits wrap
 abbrev pub counted : ℕ → List ℕ → List ℕ

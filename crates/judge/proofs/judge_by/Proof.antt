@@ -6,7 +6,7 @@ use Rattle.judge.proofs.judge_by.Tie as tie
 use Prim.Native.Nat.{_*_}
 use Rattle.engine.specs.Call.{emptyRun}
 use Rattle.trace.specs.Records.{recordsOf}
-use Rattle.judge.specs.Verdict.{findingSize}
+use Rattle.codec.specs.Codec.{findingSize}
 use Rattle.judge.specs.Pass.{stage, Ended, recordsJudged}
 use Rattle.judge.proofs.Ends.{ends-refused, ends-passed}
 

@@ -1,2 +1,0 @@
--- What the proofs of the two kinds of round share.
-pub mod OneMore

@@ -1,2 +1,0 @@
--- The events of a round, and the run after them.
-pub mod Mix
