@@ -31,8 +31,8 @@ use Rattle.trace.proofs.RecordsNext.{records-counted}
 use Rattle.judge.specs.Verdict.{findingsBytes, areaSize, traceLimits, traceCheck, historyOf, answersOf, areaAfter}
 use Rattle.judge.proofs.Whole.{unless-passed}
 use Rattle.judge.proofs.Outcome.{area-holds}
-use Rattle.listing.specs.Lines.{findingLine}
-use Rattle.listing.specs.Area.{lineAt, linesFrom}
+use Rattle.finding_lines.specs.Lines.{findingLine}
+use Rattle.finding_lines.specs.Area.{lineAt, linesFrom}
 use Rattle.listing.specs.Report.{findingLines}
 
 -- what is read after other bytes

@@ -27,8 +27,9 @@ use Rattle.trace.specs.Trailer.{sameBytes, trailerOf}
 use Rattle.trace.specs.Records.{recordsOf, eventsOf}
 use Rattle.trace.specs.Checked.{checkFrom}
 use Rattle.trace.specs.Layout.{recordsBytes, traceBytes}
-use Rattle.listing.specs.Text.{ascii, digit, decimalIn}
-use Rattle.listing.specs.Lines.{headLine, nameOf, field, values, columns, findingLine, footLine, refusalLine}
+use Rattle.text.specs.Text.{ascii, digit, decimalIn}
+use Rattle.lines.specs.Lines.{headLine, footLine, refusalLine}
+use Rattle.finding_lines.specs.Lines.{nameOf, field, values, columns, findingLine}
 use Rattle.listing.specs.Report.{lineFor, findingLines, reportOf}
 
 -- address/length

@@ -15,11 +15,12 @@ use Rattle.trace.specs.declared.TraceCheck.{TraceCheck}
 use Rattle.trace.specs.declared.TraceCheck.the-variants.{Passed, Refused}
 use Rattle.trace.specs.Records.{linesIn, eventsIn}
 use Rattle.judge.specs.Verdict.{traceCheck, historyOf, answersOf}
-use Rattle.listing.specs.Text.{Out, out, put}
-use Rattle.listing.specs.Lines.{headLine, names, nameOf, isPrinted, field, values, columns, findingLine, footLine, refusalLine}
+use Rattle.text.specs.Text.{Out, out, put}
+use Rattle.lines.specs.Lines.{headLine, footLine, refusalLine}
+use Rattle.finding_lines.specs.Lines.{names, nameOf, isPrinted, field, values, columns, findingLine}
 use Rattle.listing.specs.Report.{findingLines, reportFor, reportOf}
-use Rattle.listing.proofs.Decimal.{decimal-length}
-use Rattle.listing.proofs.Filled.{whole}
+use Rattle.text.proofs.Decimal.{decimal-length}
+use Rattle.text.proofs.Filled.{whole}
 use Rattle.listing.proofs.Area.{events-few}
 
 -- the size of the longest of some texts

@@ -1,6 +1,6 @@
 -- The report of a trace, from what the judge answers and what it leaves in the area.
 use mathlib.Core.Path.{_≡_, refl, _∙_}
-use mathlib.Core.List.{List}
+use mathlib.Core.List.{List, _++_}
 use Prim.Native.Nat.{ℕ}
 use native.Mathlib.Omega.{arith}
 use lib.ListN.{length}
@@ -12,11 +12,10 @@ use Rattle.trace.specs.declared.TraceCheck.the-variants.{Passed, Refused as Ref
 use Rattle.trace.specs.Records.{linesIn, eventsIn}
 use Rattle.judge.specs.declared.Verdict.the-variants.{Refused, Accepted}
 use Rattle.judge.specs.Verdict.{traceCheck, historyOf, answersOf, verdictFor, verdictOf, areaAfter}
-use Rattle.listing.specs.Text.{Out, put}
-use Rattle.listing.specs.Lines.{headLine, footLine, refusalLine}
-use Rattle.listing.specs.Area.{linesFrom}
+use Rattle.text.specs.Text.{Out, put}
+use Rattle.lines.specs.Lines.{headLine, footLine, refusalLine}
+use Rattle.finding_lines.specs.Area.{linesFrom}
 use Rattle.listing.specs.Report.{findingLines, reportFor, reportOf}
-use Rattle.listing.proofs.Put.{three}
 use Rattle.listing.proofs.Area.{area-lines}
 
 -- what the judge's totals are
@@ -49,14 +48,13 @@ module _ (trace area : List ℕ) where
       p ≡ put (refusalLine number n) o → p ≡ put (reportOf trace area) o
   refusal-put o e k q = rw (refused-report e, ← k) q
 
-  -- head, finding lines and foot are put
-  pub listing-put : {events fences findings lines : ℕ} {next : List ℕ} (o : Out) {p q r : Out} →
-      verdictOf trace area ≡ Accepted events fences findings → lines ≡ linesIn trace → next ≡ areaAfter trace area →
-      p ≡ put (headLine events lines) o → q ≡ put (linesFrom 0 events next) p → r ≡ put (footLine findings) q → r ≡ put (reportOf trace area) o
+  -- the listing is put, with the finding lines as they are read off the area
+  pub listing-put : {events fences findings : ℕ} {next : List ℕ} (o : Out) {p : Out} →
+      verdictOf trace area ≡ Accepted events fences findings → next ≡ areaAfter trace area →
+      p ≡ put (headLine events (linesIn trace) ++ linesFrom 0 events next ++ footLine findings) o → p ≡ put (reportOf trace area) o
   unfolding reportOf
-  listing-put {events} {findings = findings} {lines} {next} o e k a head found foot =
+  listing-put {events} {next = next} o e a q =
       let t = totals e in
       let same : linesFrom 0 events next ≡ findingLines 1 (eventsIn trace) (answersOf trace) =
       rw (t .counted, a) (area-lines trace area (t .passes)) in
-      three (headLine events lines) (linesFrom 0 events next) (footLine findings) o head found foot ∙
-      (rw (t .passes, same, t .counted, k, t .found))
+      q ∙ (rw (t .passes, same, t .counted, t .found))

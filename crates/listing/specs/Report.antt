@@ -11,7 +11,8 @@ use Rattle.trace.specs.declared.TraceCheck.{TraceCheck}
 use Rattle.trace.specs.declared.TraceCheck.the-variants.{Passed, Refused}
 use Rattle.trace.specs.Records.{linesIn, eventsIn}
 use Rattle.judge.specs.Verdict.{traceCheck, historyOf, answersOf}
-use Rattle.listing.specs.Lines.{headLine, findingLine, footLine, refusalLine}
+use Rattle.lines.specs.Lines.{headLine, footLine, refusalLine}
+use Rattle.finding_lines.specs.Lines.{findingLine}
 
 -- the line of an event's finding
 abbrev pub lineFor : ℕ → Record → Answer → List ℕ

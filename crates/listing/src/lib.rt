@@ -3,17 +3,31 @@ use event::numbers;
 use judge::Verdict;
 use trace::opening;
 ghost use mathlib.Core.Path.{_≡_};
+ghost use mathlib.Core.List.{_++_};
 ghost use Prim.Native.Nat.{_≤_};
 ghost use lib.ListN.{length, take, drop};
+ghost use Rattle.trace.specs.Records.{linesIn};
 ghost use Rattle.judge.specs.Verdict.{areaAfter};
-ghost use Rattle.listing.specs.Text.{out, put};
+ghost use Rattle.text.specs.Text.{out, put};
+ghost use Rattle.lines.specs.Lines.{headLine, footLine};
+ghost use Rattle.finding_lines.specs.Area.{linesFrom};
 ghost use Rattle.listing.specs.Report.{reportOf};
-
-pub mod lines; // head, finding, foot and refusal, a line each
-pub mod text; // words and numbers, put into a slice
 
 // No report is longer: a head of 41 bytes, 5,460 lines of 80 and a foot of 15, were all numbers of ten digits.
 pub const LONGEST: usize = 436856;
+
+// Puts the listing of an accepted trace, whose findings are in the area, at the start of the text.
+fn put_listing(text: &mut [u8], trace: &[u8], area: &[u8], events: u16, findings: u16) -> usize
+    ensures { λ r. ⌜
+        out (now (text .exit)) r ≡
+        put (headLine events (linesIn (now (trace .entry))) ++ linesFrom 0 events (now (area .entry)) ++ footLine findings) (out (now (text .entry)) 0)
+        ⌝ }
+{
+    let trailer = opening::trailer(trace);
+    let a = lines::head(text, 0, events, trailer.lines);
+    let b = finding_lines::findings(text, a, area, events);
+    lines::foot(text, b, findings)
+}
 
 // Judges a trace into an area and puts what is to be printed for it at the start of the text, or as much as there is room for.
 fn put_report(trace: &[u8], area: &mut [u8], text: &mut [u8]) -> usize
@@ -31,12 +45,7 @@ fn put_report(trace: &[u8], area: &mut [u8], text: &mut [u8]) -> usize
             events,
             fences: _,
             findings,
-        } => {
-            let trailer = opening::trailer(trace);
-            let a = lines::head(text, 0, events, trailer.lines);
-            let b = lines::findings(text, a, area, events);
-            lines::foot(text, b, findings)
-        }
+        } => put_listing(text, trace, area, events, findings),
     }
 }
 

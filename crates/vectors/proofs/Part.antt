@@ -6,8 +6,8 @@ use native.Mathlib.Omega.{arith}
 use lib.ListN.{length, length-append}
 use lib.Seq.{length-take-le}
 use Rattle.io.specs.Counts.{Counts}
-use Rattle.listing.specs.Text.{Out, out, put}
-use Rattle.listing.proofs.Filled.{filled}
+use Rattle.text.specs.Text.{Out, out, put}
+use Rattle.text.proofs.Filled.{filled}
 
 -- so many bytes at the start
 pub counts : (n : ℕ) (buf : List ℕ) → n ≤ length buf → Counts n buf

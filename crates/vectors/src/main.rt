@@ -1,114 +1,12 @@
 // Runs the corpus of the unrelated checker: each trace on standard input is judged, and what the judge leaves in the findings area and
 // what is printed for the trace are compared with what that checker says. Names the traces that differ, and counts the answers and the
 // findings.
-use event::numbers;
-use judge::Verdict;
 use libc::STDIN_FILENO;
 use libc::STDOUT_FILENO;
-use listing::lines;
 use trace::opening;
 ghost use mathlib.Core.Path.{_≡_};
 ghost use lib.ListN.{length};
-ghost use Rattle.vectors.specs.Agrees.{areaBefore, Agrees, Tests};
 ghost use Rattle.io.specs.Counts.{Counts};
-ghost use Rattle.judge.specs.Verdict.{verdictOf, areaAfter};
-ghost use Rattle.vectors.specs.Tally.{counted, placeOf, kindsFrom, kindsIn};
-
-// Makes every byte of the area A5h.
-fn fill(area: &mut [u8])
-    ensures { λ _. ⌜ now (area .exit) ≡ areaBefore (length (now (area .entry))) ⌝ }
-{
-    let mut i = 0;
-    while i < area.len() {
-        area[i] = 165;
-        i += 1;
-    }
-}
-
-// Whether the trace, judged into this area, leaves these bytes in it, and this text is printed for it.
-fn agrees(trace: &[u8], area: &mut [u8], after: &[u8], text: &[u8]) -> bool
-    ensures { λ r. ⌜ Tests r (Agrees (now (trace .entry)) (now (area .entry)) (now (after .entry)) (now (text .entry))) ⌝ }
-    ensures { λ _. ⌜ now (area .exit) ≡ areaAfter (now (trace .entry)) (now (area .entry)) ⌝ }
-{
-    let mut printed = [0u8; listing::LONGEST];
-    let n = listing::report(trace, area, &mut printed);
-    let same_area = check::same(area, after);
-    let same_text = check::same(&printed[..n], text);
-    same_area && same_text
-}
-
-// One more at a place of the counts; none where there is no such place.
-fn count(counts: &mut [u32], i: u8)
-    ensures { λ _. ⌜ now (counts .exit) ≡ counted i (now (counts .entry)) ⌝ }
-{
-    let at = i as usize;
-    if at < counts.len() {
-        counts[at] = std::num::wrapping_add_u32(counts[at], 1);
-    }
-}
-
-// Counts the kinds of the first findings of an area, so many of them.
-fn count_kinds(kinds: &mut [u32], area: &[u8], events: u16)
-    ensures { λ _. ⌜ now (kinds .exit) ≡ kindsFrom 0 events (now (area .entry)) (now (kinds .entry)) ⌝ }
-{
-    let mut i: u16 = 0;
-    while i < events {
-        let kind = codec::byte_at(area, 12 * (i as usize));
-        count(kinds, kind);
-        i += 1;
-    }
-}
-
-// Counts an answer at its number, 0 where the trace is accepted, and then the findings in the area at their kinds.
-fn tally(answer: Verdict, area: &[u8], answers: &mut [u32], kinds: &mut [u32])
-    ensures { λ _. ⌜ now (answers .exit) ≡ counted (placeOf answer) (now (answers .entry)) ⌝ }
-    ensures { λ _. ⌜ now (kinds .exit) ≡ kindsIn answer (now (area .entry)) (now (kinds .entry)) ⌝ }
-{
-    match answer {
-        Verdict::Refused { refusal, record: _ } => count(answers, numbers::number(refusal)),
-        Verdict::Accepted {
-            events,
-            fences: _,
-            findings: _,
-        } => {
-            count(answers, 0);
-            count_kinds(kinds, area, events);
-        }
-    }
-}
-
-// Judges a trace of the corpus twice, each time into an area whose bytes are all A5h: for its report, and for its answer, which is
-// counted. Answers whether the area and the report are as the corpus says.
-fn run(
-    trace: &[u8],
-    area: &mut [u8],
-    after: &[u8],
-    text: &[u8],
-    answers: &mut [u32],
-    kinds: &mut [u32],
-) -> bool
-    ensures { λ r. ⌜
-        Tests r (Agrees (now (trace .entry)) (areaBefore (length (now (area .entry)))) (now (after .entry)) (now (text .entry)))
-        ⌝ }
-    ensures { λ _. ⌜ now (area .exit) ≡ areaAfter (now (trace .entry)) (areaBefore (length (now (area .entry)))) ⌝ }
-    ensures { λ _. ⌜
-        now (answers .exit) ≡
-        counted (placeOf (verdictOf (now (trace .entry)) (areaBefore (length (now (area .entry)))))) (now (answers .entry))
-        ⌝ }
-    ensures { λ _. ⌜
-        now (kinds .exit) ≡
-        kindsIn (verdictOf (now (trace .entry)) (areaBefore (length (now (area .entry)))))
-        (areaAfter (now (trace .entry)) (areaBefore (length (now (area .entry)))))
-        (now (kinds .entry))
-        ⌝ }
-{
-    fill(area);
-    let same = agrees(trace, area, after, text);
-    fill(area);
-    let answer = judge::judge(trace, area);
-    tally(answer, area, answers, kinds);
-    same
-}
 
 // Reads so many bytes to the start of the buffer, and answers how many came; none where there is no room for them.
 fn read_part(buf: &mut [u8], n: u32) -> usize
@@ -128,22 +26,45 @@ fn print_differs(name: &[u8]) {
     io::write_all(STDOUT_FILENO, b"\n");
 }
 
-// Reads the parts of an entry, name, trace, findings area and text, whose lengths the header gives, and runs it.
-fn entry(header: &[u8], answers: &mut [u32], kinds: &mut [u32]) -> bool {
-    let mut name = [0u8; 64];
-    let name_len = read_part(&mut name, opening::u32_at(header, 0));
-    let mut trace = [0u8; 65537];
-    let trace_len = read_part(&mut trace, opening::u32_at(header, 4));
-    let mut after = [0u8; 65536];
-    let area_len = read_part(&mut after, opening::u32_at(header, 8));
-    let mut text = [0u8; 262144];
-    let text_len = read_part(&mut text, opening::u32_at(header, 12));
-    let mut area = [0u8; 65536];
-    let same = run(
+// Reads the trace, findings area and text of an entry, whose lengths the header gives, into these buffers, and runs the trace.
+fn run_parts(
+    header: &[u8],
+    trace: &mut [u8],
+    after: &mut [u8],
+    text: &mut [u8],
+    area: &mut [u8],
+    answers: &mut [u32],
+    kinds: &mut [u32],
+) -> bool
+    requires { ⌜ length (now area) ≡ length (now after) ⌝ }
+{
+    let trace_len = read_part(trace, opening::u32_at(header, 4));
+    let area_len = read_part(after, opening::u32_at(header, 8));
+    let text_len = read_part(text, opening::u32_at(header, 12));
+    corpus::run(
         &trace[..trace_len],
         &mut area[..area_len],
         &after[..area_len],
         &text[..text_len],
+        answers,
+        kinds,
+    )
+}
+
+// Reads an entry, its name first, and runs it. Names it where it differs.
+fn entry(header: &[u8], answers: &mut [u32], kinds: &mut [u32]) -> bool {
+    let mut name = [0u8; 64];
+    let name_len = read_part(&mut name, opening::u32_at(header, 0));
+    let mut trace = [0u8; 65537];
+    let mut after = [0u8; 65536];
+    let mut text = [0u8; 262144];
+    let mut area = [0u8; 65536];
+    let same = run_parts(
+        header,
+        &mut trace,
+        &mut after,
+        &mut text,
+        &mut area,
         answers,
         kinds,
     );
@@ -178,7 +99,7 @@ fn print_kinds(kinds: &[u32; 9]) {
     let mut i: u8 = 0;
     while i < 9 {
         let mut word = [0u8; 16];
-        let n = lines::name(&mut word, 0, i);
+        let n = finding_lines::name(&mut word, 0, i);
         print_count(&word[..n], kinds[i as usize]);
         i += 1;
     }

@@ -3,7 +3,7 @@
 use Rattle.event.proofs.Laws.{equal-by}
 use mathlib.Core.Path.{ap}
 use Rattle.trace.specs.declared.Trailer.{Trailer}
-use Rattle.listing.specs.Text.{out}
+use Rattle.text.specs.Text.{out}
 use Rattle.listing.proofs.Whole.{refusal-put, listing-put}
 use borrow.Author.Needs.{needs}
 use Rattle.listing.proofs.put_report.Statement.{statement}

@@ -1,0 +1,3 @@
+-- Laws of the lines of findings.
+pub mod FindingLines  -- the lines of an area, one after another
+pub mod Meaning  -- the finding lines of document 01's whole run
