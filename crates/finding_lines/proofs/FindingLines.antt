@@ -1,15 +1,21 @@
 -- The finding lines, one after another.
 use mathlib.Core.Path.{_≡_}
 use mathlib.Core.Bool.{Bool, true, false}
-use mathlib.Core.List.{List}
+use mathlib.Core.List.{List, []}
 use Prim.Native.Nat.{ℕ, suc, _+_, _-_, _*_, _≤_, _<_}
 use native.Mathlib.Omega.{arith}
+use lib.ListN.{List·getD-eq-default}
 use Rattle.event.specs.declared.Fields.{Fields}
 use Rattle.codec.specs.Codec.{u16At, fieldsAt, findingSize}
 use Rattle.text.specs.Text.{Out, put}
-use Rattle.finding_lines.specs.Lines.{isPrinted, columns, findingLine}
+use Rattle.finding_lines.specs.Lines.{names, nameOf, isPrinted, columns, findingLine}
 use Rattle.finding_lines.specs.Area.{lineAt, linesFrom}
 use Rattle.text.proofs.Puts.{put-append}
+
+-- a number past the kinds has no name
+pub no-name : (kind : ℕ) (o : Out) → 9 ≤ kind → o ≡ put (nameOf kind) o
+unfolding put
+no-name kind o past = let none : nameOf kind ≡ [] = List·getD-eq-default names [] {n = kind} past in rw none
 
 -- a finding is printed or not, by its kind
 module _ (event site : ℕ) (f : Fields) {b : Bool} (tested : b ≡ isPrinted (f .kind)) where

@@ -1,10 +1,26 @@
 // The lines of findings, each put into a slice from a place on. Each function answers the place after what it put.
 use event::Fields;
 ghost use mathlib.Core.Path.{_≡_};
+ghost use Prim.Native.Nat.{_≤_};
 ghost use Rattle.text.specs.Text.{out, put};
 ghost use Rattle.finding_lines.specs.Lines.{nameOf, isPrinted, values, columns, findingLine};
 ghost use Rattle.finding_lines.specs.Lines.{field as Lines·field};
 ghost use Rattle.finding_lines.specs.Area.{linesFrom};
+
+// The name of a warning; a number past the kinds has none.
+fn warning_name(text: &mut [u8], at: usize, kind: u8) -> usize
+    requires { ⌜ 4 ≤ kind ⌝ }
+    ensures { λ r. ⌜ out (now (text .exit)) r ≡ put (nameOf kind) (out (now (text .entry)) at) ⌝ }
+{
+    match kind {
+        4 => text::put(text, at, b"unlogged"),
+        5 => text::put(text, at, b"clean"),
+        6 => text::put(text, at, b"written-twice"),
+        7 => text::put(text, at, b"logged-twice"),
+        8 => text::put(text, at, b"empty"),
+        _ => at,
+    }
+}
 
 // The name of a finding's kind; a number that is no kind has none.
 pub fn name(text: &mut [u8], at: usize, kind: u8) -> usize
@@ -15,12 +31,7 @@ pub fn name(text: &mut [u8], at: usize, kind: u8) -> usize
         1 => text::put(text, at, b"holds"),
         2 => text::put(text, at, b"lost"),
         3 => text::put(text, at, b"out-of-order"),
-        4 => text::put(text, at, b"unlogged"),
-        5 => text::put(text, at, b"clean"),
-        6 => text::put(text, at, b"written-twice"),
-        7 => text::put(text, at, b"logged-twice"),
-        8 => text::put(text, at, b"empty"),
-        _ => at,
+        _ => warning_name(text, at, kind),
     }
 }
 
