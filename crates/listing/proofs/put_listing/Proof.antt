@@ -31,7 +31,7 @@ returns c =
     let g = f .before .before .before .before in
     let h = g .before .before .before .before in
     let t = h .before .before in
-    let k = t .before .before .before .args in
+    let k = t .before .before .before .before .args in
     let lines = ap (λ (t : Trailer). t .lines) (t .trailer .ensures) in
     three (headLine (k .events) (linesIn (k .trace .now))) (linesFrom 0 (k .events) (k .area .now)) (footLine (k .findings)) (out (k .text .now) 0)
     (rw lines at (h .head .ensures)) (g .findings .ensures) (f .foot .ensures)

@@ -1,8 +1,6 @@
 -- `listing::put_report` meets its contract: what the judge answers decides between the refusal and the listing, whose finding lines are read
 -- off the area. Assumes nothing.
 use Rattle.event.proofs.Laws.{equal-by}
-use mathlib.Core.Path.{ap}
-use Rattle.trace.specs.declared.Trailer.{Trailer}
 use Rattle.text.specs.Text.{out}
 use Rattle.listing.proofs.Whole.{refusal-put, listing-put}
 use borrow.Author.Needs.{needs}
@@ -24,17 +22,8 @@ refusal-requires c κs = search needs
 enum-known-events : tie.Need-enum-known-events
 enum-known-events c = search needs
 
-trailer-requires : tie.Need-trailer-requires
-trailer-requires c κs = search needs
-
-head-requires : tie.Need-head-requires
-head-requires c κs = search needs
-
-findings-requires : tie.Need-findings-requires
-findings-requires c κs = search needs
-
-foot-requires : tie.Need-foot-requires
-foot-requires c κs = search needs
+put-listing-requires : tie.Need-put-listing-requires
+put-listing-requires c κs = search needs
 
 same-length : tie.Need-same-length
 same-length c = search needs
@@ -60,16 +49,13 @@ same-length-4 c = search needs
 
 returns-2 : tie.Need-returns-2
 returns-2 c =
-    let f = c .before .before in
-    let g = f .before .before .before .before in
-    let h = g .before .before .before .before .before in
-    let t = h .before .before in
-    let m = t .before .before in
+    let l = c .before .before in
+    let m = l .before .before .before .before in
     let j = m .before .before .before .before in
     let k = j .before .before .before .before .before .args in (
       j .judge .ensures .1,
       listing-put (k .trace .now) (k .area .now) (out (k .text .now) 0) (equal-by (j .judge .ensures .0) (m .events .given .1))
-          (ap (λ (t : Trailer). t .lines) (t .trailer .ensures)) (j .judge .ensures .1) (h .head .ensures) (g .findings .ensures) (f .foot .ensures),
+          (j .judge .ensures .1) (l .put-listing .ensures),
     )
 
 pub put-report-spec : {M : Type 1} → statement M
@@ -81,10 +67,7 @@ put-report-spec =
     number-requires
     refusal-requires
     enum-known-events
-    trailer-requires
-    head-requires
-    findings-requires
-    foot-requires
+    put-listing-requires
     same-length
     same-length-2
     returns
