@@ -1,13 +1,17 @@
--- The start of a buffer, as far as bytes were read or put there.
+-- A buffer, and its start as far as bytes were read or put there.
 use mathlib.Core.Path.{_≡_, sym, ap, _∙_}
 use mathlib.Core.List.{List, _++_}
 use Prim.Native.Nat.{ℕ, _≤_}
 use native.Mathlib.Omega.{arith}
-use lib.ListN.{length, length-append}
+use lib.ListN.{length, replicate, length-append, length-replicate}
 use lib.Seq.{length-take-le}
 use Rattle.io.specs.Counts.{Counts}
 use Rattle.text.specs.Text.{Out, out, put}
 use Rattle.text.proofs.Filled.{filled}
+
+-- the length of a fresh buffer
+pub zeros : (n : ℕ) → n ≡ length (replicate {A = ℕ} n 0)
+zeros n = sym (length-replicate {A = ℕ} n 0)
 
 -- so many bytes at the start
 pub counts : (n : ℕ) (buf : List ℕ) → n ≤ length buf → Counts n buf

@@ -8,11 +8,12 @@ ghost use mathlib.Core.Path.{_≡_};
 ghost use lib.ListN.{length};
 ghost use Rattle.io.specs.Counts.{Counts};
 
-// Reads so many bytes to the start of the buffer, and answers how many came; none where there is no room for them.
-fn read_part(buf: &mut [u8], n: u32) -> usize
+// Reads a part, whose length is at this place of the header, to the start of the buffer, and answers how many bytes came; none where
+// there is no room for them.
+fn read_part(header: &[u8], at: u8, buf: &mut [u8]) -> usize
     ensures { λ r. ⌜ Counts r (now (buf .exit)) ⌝ }
 {
-    let len = n as usize;
+    let len = opening::u32_at(header, at) as usize;
     if buf.len() < len {
         return 0;
     }
@@ -38,9 +39,9 @@ fn run_parts(
 ) -> bool
     requires { ⌜ length (now area) ≡ length (now after) ⌝ }
 {
-    let trace_len = read_part(trace, opening::u32_at(header, 4));
-    let area_len = read_part(after, opening::u32_at(header, 8));
-    let text_len = read_part(text, opening::u32_at(header, 12));
+    let trace_len = read_part(header, 4, trace);
+    let area_len = read_part(header, 8, after);
+    let text_len = read_part(header, 12, text);
     corpus::run(
         &trace[..trace_len],
         &mut area[..area_len],
@@ -51,15 +52,13 @@ fn run_parts(
     )
 }
 
-// Reads an entry, its name first, and runs it. Names it where it differs.
-fn entry(header: &[u8], answers: &mut [u32], kinds: &mut [u32]) -> bool {
-    let mut name = [0u8; 64];
-    let name_len = read_part(&mut name, opening::u32_at(header, 0));
+// Reads what comes after the name of an entry and runs it.
+fn run_entry(header: &[u8], answers: &mut [u32], kinds: &mut [u32]) -> bool {
     let mut trace = [0u8; 65537];
     let mut after = [0u8; 65536];
     let mut text = [0u8; 262144];
     let mut area = [0u8; 65536];
-    let same = run_parts(
+    run_parts(
         header,
         &mut trace,
         &mut after,
@@ -67,9 +66,16 @@ fn entry(header: &[u8], answers: &mut [u32], kinds: &mut [u32]) -> bool {
         &mut area,
         answers,
         kinds,
-    );
+    )
+}
+
+// Reads an entry, its name first, and runs it. Names it where it differs.
+fn entry(header: &[u8], answers: &mut [u32], kinds: &mut [u32]) -> bool {
+    let mut name = [0u8; 64];
+    let n = read_part(header, 0, &mut name);
+    let same = run_entry(header, answers, kinds);
     if !same {
-        print_differs(&name[..name_len]);
+        print_differs(&name[..n]);
     }
     same
 }

@@ -5,6 +5,12 @@ use Rattle.vectors.proofs.Part.{counts, counts-read}
 use Rattle.vectors.proofs.read_part.Statement.{statement}
 use Rattle.vectors.proofs.read_part.Tie as tie
 
+u32-at-requires : tie.Need-u32-at-requires
+u32-at-requires c κs = search needs
+
+cast-len : tie.Need-cast-len
+cast-len c = search needs
+
 returns : tie.Need-returns
 returns c = search needs
 
@@ -12,7 +18,7 @@ slice-relend-prefix-read-full : tie.Need-slice-relend-prefix-read-full
 slice-relend-prefix-read-full c = search needs
 
 slice-aggregate-read-full : tie.Need-slice-aggregate-read-full
-slice-aggregate-read-full c = let k = c .before .before .before .args in counts (k .n) (k .buf .now) (omega arith) .1
+slice-aggregate-read-full c = counts (c .before .before .u32-at .result) (c .before .before .before .before .before .args .buf .now) (omega arith) .1
 
 read-full-requires : tie.Need-read-full-requires
 read-full-requires c κs = search needs
@@ -27,6 +33,8 @@ pub read-part-spec : {M : Type 1} → statement M
 read-part-spec =
     tie.close
     (tie.spec
+    u32-at-requires
+    cast-len
     returns
     slice-relend-prefix-read-full
     slice-aggregate-read-full

@@ -1,0 +1,42 @@
+-- `vectors::run_entry` meets its contract: the buffers have the lengths that their types say. Assumes nothing.
+use mathlib.Core.Path.{refl}
+use Rattle.vectors.proofs.Part.{zeros}
+use Rattle.vectors.proofs.run_entry.Statement.{statement}
+use Rattle.vectors.proofs.run_entry.Tie as tie
+
+slice-aggregate-run-parts : tie.Need-slice-aggregate-run-parts
+slice-aggregate-run-parts c = zeros 65537
+
+slice-aggregate-run-parts-2 : tie.Need-slice-aggregate-run-parts-2
+slice-aggregate-run-parts-2 c = zeros 65536
+
+slice-aggregate-run-parts-3 : tie.Need-slice-aggregate-run-parts-3
+slice-aggregate-run-parts-3 c = zeros 262144
+
+slice-aggregate-run-parts-4 : tie.Need-slice-aggregate-run-parts-4
+slice-aggregate-run-parts-4 c = zeros 65536
+
+run-parts-requires : tie.Need-run-parts-requires
+run-parts-requires c κs = refl
+
+same-length : tie.Need-same-length
+same-length c = c .before .before .before .before .before .before .before .before .run-parts .kept .1 .1 .1 .1 .1 .0
+
+same-length-2 : tie.Need-same-length-2
+same-length-2 c = c .before .before .before .before .before .before .before .before .run-parts .kept .1 .1 .1 .1 .1 .1 .0
+
+returns : tie.Need-returns
+returns c = tt
+
+pub run-entry-spec : {M : Type 1} → statement M
+run-entry-spec =
+    tie.close
+    (tie.spec
+    slice-aggregate-run-parts
+    slice-aggregate-run-parts-2
+    slice-aggregate-run-parts-3
+    slice-aggregate-run-parts-4
+    run-parts-requires
+    same-length
+    same-length-2
+    returns)
