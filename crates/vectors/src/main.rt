@@ -20,8 +20,11 @@ fn read_part(header: &[u8], at: u8, buf: &mut [u8]) -> usize
     io::read_full(STDIN_FILENO, &mut buf[..len])
 }
 
-// `differs: refused/8-length-0-last`
-fn print_differs(name: &[u8]) {
+// `differs: refused/8-length-0-last`, or nothing where an entry is the same.
+fn print_entry(name: &[u8], same: bool) {
+    if same {
+        return;
+    }
     io::write_all(STDOUT_FILENO, b"differs: ");
     io::write_all(STDOUT_FILENO, name);
     io::write_all(STDOUT_FILENO, b"\n");
@@ -52,13 +55,15 @@ fn run_parts(
     )
 }
 
-// Reads what comes after the name of an entry and runs it.
-fn run_entry(header: &[u8], answers: &mut [u32], kinds: &mut [u32]) -> bool {
+// Reads an entry, its name first, and runs it.
+fn entry(header: &[u8], answers: &mut [u32], kinds: &mut [u32]) -> bool {
+    let mut name = [0u8; 64];
+    let n = read_part(header, 0, &mut name);
     let mut trace = [0u8; 65537];
     let mut after = [0u8; 65536];
     let mut text = [0u8; 262144];
     let mut area = [0u8; 65536];
-    run_parts(
+    let same = run_parts(
         header,
         &mut trace,
         &mut after,
@@ -66,17 +71,8 @@ fn run_entry(header: &[u8], answers: &mut [u32], kinds: &mut [u32]) -> bool {
         &mut area,
         answers,
         kinds,
-    )
-}
-
-// Reads an entry, its name first, and runs it. Names it where it differs.
-fn entry(header: &[u8], answers: &mut [u32], kinds: &mut [u32]) -> bool {
-    let mut name = [0u8; 64];
-    let n = read_part(header, 0, &mut name);
-    let same = run_entry(header, answers, kinds);
-    if !same {
-        print_differs(&name[..n]);
-    }
+    );
+    print_entry(&name[..n], same);
     same
 }
 
