@@ -1,11 +1,11 @@
 // The text that the program prints for a trace.
 use event::numbers;
-use judge::Verdict;
+use verdict::Verdict;
 use trace::opening;
 ghost use mathlib.Core.Path.{_≡_};
 ghost use Prim.Native.Nat.{_≤_};
 ghost use lib.ListN.{length, take, drop};
-ghost use Rattle.judge.specs.Verdict.{areaAfter};
+ghost use Rattle.verdict.specs.Verdict.{areaAfter};
 ghost use Rattle.listing.specs.Text.{out, put};
 ghost use Rattle.listing.specs.Report.{reportOf};
 

@@ -2,7 +2,7 @@
 // what is printed for the trace are compared with what that checker says. Names the traces that differ, and counts the answers and the
 // findings.
 use event::numbers;
-use judge::Verdict;
+use verdict::Verdict;
 use libc::STDIN_FILENO;
 use libc::STDOUT_FILENO;
 use listing::lines;
@@ -11,7 +11,7 @@ ghost use mathlib.Core.Path.{_≡_};
 ghost use lib.ListN.{length};
 ghost use Rattle.vectors.specs.Agrees.{areaBefore, Agrees, Tests};
 ghost use Rattle.io.specs.Counts.{Counts};
-ghost use Rattle.judge.specs.Verdict.{verdictOf, areaAfter};
+ghost use Rattle.verdict.specs.Verdict.{verdictOf, areaAfter};
 ghost use Rattle.vectors.specs.Tally.{counted, placeOf, kindsFrom, kindsIn};
 
 // Makes every byte of the area A5h.

@@ -1,0 +1,36 @@
+-- The buffer for the records of a trace: which of the two it is, and that it has room for their findings.
+use mathlib.Core.Path.{_≡_, refl, sym, ap}
+use mathlib.Core.Bool.{Bool, true, false, cond}
+use mathlib.Core.List.{List}
+use Prim.Native.Nat.{ℕ, _*_, _≤_, _<_}
+use native.Mathlib.Omega.{arith}
+use lib.Dec.{leb}
+use lib.ListN.{length, replicate, length-replicate}
+use borrow.Author.Tests.{leb-true, le-leb, lt-leb}
+use Rattle.codec.specs.Codec.{findingSize}
+use Rattle.verdict.specs.declared.Verdict.{Verdict}
+use Rattle.pass.specs.Pass.{allJudged}
+use Rattle.judge.specs.Ends.{longBuffer, bufferFor, verdictBy, areaBy}
+
+module _ (count : ℕ) where
+  pub short-buffer : count ≤ 340 → replicate 4080 0 ≡ bufferFor count
+  unfolding bufferFor
+  short-buffer k = ap (λ (b : Bool). replicate (cond b 4080 longBuffer) 0) (sym (le-leb count 340 k))
+
+  pub long-buffer : 340 < count → replicate longBuffer 0 ≡ bufferFor count
+  unfolding bufferFor
+  long-buffer k = ap (λ (b : Bool). replicate (cond b 4080 longBuffer) 0) (sym (lt-leb count 340 k))
+
+  pub buffer-room : findingSize * count ≤ longBuffer → findingSize * count ≤ length (bufferFor count)
+  unfolding bufferFor
+  buffer-room k = go (leb count 340) refl
+    where
+      go : (b : Bool) → leb count 340 ≡ b → findingSize * count ≤ length (replicate (cond b 4080 longBuffer) 0)
+      go true e = let few = leb-true count 340 e in omega (arith, length-replicate 4080 0)
+      go false e = omega (arith, length-replicate longBuffer 0)
+
+-- the records judged into it
+pub judged-into : {count lines : ℕ} {records area next buffer other : List ℕ} {v : Verdict} → buffer ≡ other →
+    v ≡ verdictBy (allJudged count lines records buffer) → next ≡ areaBy (findingSize * count) (allJudged count lines records buffer) area →
+    (v ≡ verdictBy (allJudged count lines records other)) × (next ≡ areaBy (findingSize * count) (allJudged count lines records other) area)
+judged-into e v a = (rw e at v, rw e at a)
