@@ -1,7 +1,7 @@
 // The text that the program prints for a trace.
 use event::numbers;
-use verdict::Verdict;
 use trace::opening;
+use verdict::Verdict;
 ghost use mathlib.Core.Path.{_≡_};
 ghost use Prim.Native.Nat.{_≤_};
 ghost use lib.ListN.{length, take, drop};

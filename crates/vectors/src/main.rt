@@ -2,11 +2,11 @@
 // what is printed for the trace are compared with what that checker says. Names the traces that differ, and counts the answers and the
 // findings.
 use event::numbers;
-use verdict::Verdict;
 use libc::STDIN_FILENO;
 use libc::STDOUT_FILENO;
 use listing::lines;
 use trace::opening;
+use verdict::Verdict;
 ghost use mathlib.Core.Path.{_≡_};
 ghost use lib.ListN.{length};
 ghost use Rattle.vectors.specs.Agrees.{areaBefore, Agrees, Tests};

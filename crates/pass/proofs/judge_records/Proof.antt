@@ -39,17 +39,17 @@ loop-holds c = (omega arith, omega arith, rw (c .no-counts .ensures))
 add-number : tie.Need-add-number Inv-loop μ-loop
 add-number c = search needs
 
-cast-at : tie.Need-cast-at Inv-loop μ-loop
-cast-at c = search needs
-
-mul-at : tie.Need-mul-at Inv-loop μ-loop
-mul-at c = search needs
-
 record-at-requires : tie.Need-record-at-requires Inv-loop μ-loop
 record-at-requires c κs = search needs
 
+cast-judge-record : tie.Need-cast-judge-record Inv-loop μ-loop
+cast-judge-record c = search needs
+
+mul-judge-record : tie.Need-mul-judge-record Inv-loop μ-loop
+mul-judge-record c = search needs
+
 judge-record-requires : tie.Need-judge-record-requires Inv-loop μ-loop
-judge-record-requires c κs = omega arith
+judge-record-requires c κs = search needs
 
 enum-known-answer : tie.Need-enum-known-answer Inv-loop μ-loop
 enum-known-answer c = search needs
@@ -111,9 +111,9 @@ judge-records-spec =
     no-counts-requires
     loop-holds
     add-number
-    cast-at
-    mul-at
     record-at-requires
+    cast-judge-record
+    mul-judge-record
     judge-record-requires
     enum-known-answer
     same-length
