@@ -25,12 +25,12 @@ module _ (count : ℕ) where
   unfolding bufferFor
   buffer-room k = go (leb count 340) refl
     where
-      go : (b : Bool) → leb count 340 ≡ b → findingSize * count ≤ length (replicate (cond b 4080 longBuffer) 0)
-      go true e = let few = leb-true count 340 e in omega (arith, length-replicate 4080 0)
-      go false e = omega (arith, length-replicate longBuffer 0)
+      go : (b : Bool) → leb count 340 ≡ b → findingSize * count ≤ length {A = ℕ} (replicate (cond b 4080 longBuffer) 0)
+      go true e = let few = leb-true count 340 e in omega (arith, length-replicate {A = ℕ} 4080 0)
+      go false e = omega (arith, length-replicate {A = ℕ} longBuffer 0)
 
 -- the records judged into it
-pub judged-into : {count lines : ℕ} {records area next buffer other : List ℕ} {v : Verdict} → buffer ≡ other →
+pub judged-into : (count lines : ℕ) (records area : List ℕ) {next buffer other : List ℕ} {v : Verdict} → buffer ≡ other →
     v ≡ verdictBy (allJudged count lines records buffer) → next ≡ areaBy (findingSize * count) (allJudged count lines records buffer) area →
     (v ≡ verdictBy (allJudged count lines records other)) × (next ≡ areaBy (findingSize * count) (allJudged count lines records other) area)
-judged-into e v a = (rw e at v, rw e at a)
+judged-into count lines records area e v a = (rw e at v, rw e at a)
