@@ -23,11 +23,14 @@ module _ (count : ℕ) where
 
   pub buffer-room : findingSize * count ≤ longBuffer → findingSize * count ≤ length (bufferFor count)
   unfolding bufferFor
-  buffer-room k = go (leb count 340) refl
+  buffer-room k =
+      let size = cond (leb count 340) 4080 longBuffer in
+      let room : findingSize * count ≤ size = go (leb count 340) refl in
+      rw (length-replicate {A = ℕ} size 0) room
     where
-      go : (b : Bool) → leb count 340 ≡ b → findingSize * count ≤ length {A = ℕ} (replicate (cond b 4080 longBuffer) 0)
-      go true e = let few = leb-true count 340 e in omega (arith, length-replicate {A = ℕ} 4080 0)
-      go false e = omega (arith, length-replicate {A = ℕ} longBuffer 0)
+      go : (b : Bool) → leb count 340 ≡ b → findingSize * count ≤ cond b 4080 longBuffer
+      go true e = let few = leb-true count 340 e in omega arith
+      go false e = k
 
 -- the records judged into it
 pub judged-into : (count lines : ℕ) (records area : List ℕ) {next buffer other : List ℕ} {v : Verdict} → buffer ≡ other →

@@ -1,19 +1,19 @@
 -- `judge::judge_part` meets its contract: either buffer has room for the findings.
 -- Assumes nothing.
-use borrow.Author.Needs.{needs}
+use mathlib.Core.Path.{refl}
 use native.Mathlib.Omega.{arith}
 use Rattle.judge.proofs.Buffer.{short-buffer, long-buffer, judged-into}
 use Rattle.judge.proofs.judge_part.Statement.{statement}
 use Rattle.judge.proofs.judge_part.Tie as tie
 
 slice-aggregate-judge-by : tie.Need-slice-aggregate-judge-by
-slice-aggregate-judge-by c = search needs
+slice-aggregate-judge-by c = refl
 
 judge-by-requires : tie.Need-judge-by-requires
 judge-by-requires c κs = (omega arith, c .before .before .before .before .before .pre .1)
 
 same-length : tie.Need-same-length
-same-length c = search needs
+same-length c = c .before .before .before .judge-by .kept .1 .1 .1 .1 .0
 
 returns : tie.Need-returns
 returns c =
@@ -24,13 +24,13 @@ returns c =
     judged-into (k .count) (k .lines) (k .records .now) (k .area .now) (short-buffer (k .count) (i .if1 .taken)) (e .0) (e .1 .1)
 
 slice-aggregate-judge-by-2 : tie.Need-slice-aggregate-judge-by-2
-slice-aggregate-judge-by-2 c = search needs
+slice-aggregate-judge-by-2 c = refl
 
 judge-by-requires-2 : tie.Need-judge-by-requires-2
 judge-by-requires-2 c κs = (c .before .before .before .before .before .pre .0, c .before .before .before .before .before .pre .1)
 
 same-length-2 : tie.Need-same-length-2
-same-length-2 c = search needs
+same-length-2 c = c .before .before .before .judge-by2 .kept .1 .1 .1 .1 .0
 
 returns-2 : tie.Need-returns-2
 returns-2 c =
