@@ -45,7 +45,7 @@ module _ (s area : List ℕ) where
     size = ap (λ (t : Trailer). findingSize * t .count) (sym (opened s known .trailer))
 
     -- where nothing does, they leave the totals and the findings of the trace's events
-    leaves : traceCheck s area ≡ Passed → Judged (linesIn s) (recordsIn s) buffer (inTrace .stage)
+    leaves : traceCheck s area ≡ Passed → Judged (linesIn s) (recordsIn s) (inTrace .stage)
     leaves k =
         let inside : findingSize * length (recordsIn s) ≤ length buffer = omega (arith, room, size, all-counted s) in
         judged (linesIn s) (window-fits s area known) (recordsIn s) buffer (sym (records-decide s area known fits) ∙ k) inside

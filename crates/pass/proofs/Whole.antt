@@ -136,7 +136,7 @@ passes lines m n h run (Record r ∷ rest) at d k check inside =
         (placed-length d at (findingBytes f (r .site))))
 
 -- what the pass leaves where no record is refused
-pub record Judged (lines : ℕ) (records : List Parsed) (before : List ℕ) (end : Stage) : Type 0 where
+pub record Judged (lines : ℕ) (records : List Parsed) (end : Stage) : Type 0 where
   pub events : end .run .counts .events ≡ length (accepted lines [] (eventsOf records))
   pub fences : let h = accepted lines [] (eventsOf records) in end .run .counts .fences ≡ epochAt h (length h)
   pub findings : end .run .counts .findings ≡ reported (answers lines [] (eventsOf records))
@@ -150,7 +150,7 @@ module _ (lines : ℕ) (m : lines ≤ mostLines) (records : List Parsed) (buffer
 
   -- the totals and the findings
   pub judged : checkAll lines records ≡ Passed → findingSize * length records ≤ length buffer →
-      Judged lines records buffer (recordsJudged records 1 0 (stage (emptyRun lines) buffer) .stage)
+      Judged lines records (recordsJudged records 1 0 (stage (emptyRun lines) buffer) .stage)
   judged check inside =
       let e = passes lines m 1 [] (emptyRun lines) records 0 buffer (fresh-follows lines) check (omega arith) in
       let t = tracks lines m (eventsOf records) in
