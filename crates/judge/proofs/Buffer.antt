@@ -13,13 +13,19 @@ use Rattle.pass.specs.Pass.{allJudged}
 use Rattle.judge.specs.Ends.{longBuffer, bufferFor, verdictBy, areaBy}
 
 module _ (count : ℕ) where
+  -- at most 340 records have the short one
   pub short-buffer : count ≤ 340 → replicate 4080 0 ≡ bufferFor count
   unfolding bufferFor
   short-buffer k = ap (λ (b : Bool). replicate (cond b 4080 longBuffer) 0) (sym (le-leb count 340 k))
 
+  -- more have the long one
   pub long-buffer : 340 < count → replicate longBuffer 0 ≡ bufferFor count
   unfolding bufferFor
   long-buffer k = ap (λ (b : Bool). replicate (cond b 4080 longBuffer) 0) (sym (lt-leb count 340 k))
+
+  -- either has room
+  pub short-room : count ≤ 340 → findingSize * count ≤ 4080
+  short-room k = omega arith
 
   pub buffer-room : findingSize * count ≤ longBuffer → findingSize * count ≤ length (bufferFor count)
   unfolding bufferFor
@@ -29,7 +35,7 @@ module _ (count : ℕ) where
       rw (length-replicate {A = ℕ} size 0) room
     where
       go : (b : Bool) → leb count 340 ≡ b → findingSize * count ≤ cond b 4080 longBuffer
-      go true e = let few = leb-true count 340 e in omega arith
+      go true e = short-room (leb-true count 340 e)
       go false e = k
 
 -- the records judged into it

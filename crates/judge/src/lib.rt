@@ -38,15 +38,14 @@ fn judge_by(records: &[u8], count: u32, lines: u16, buffer: &mut [u8], area: &mu
 {
     let j = pass::judge_records(records, count, lines, buffer);
     let check = j.check;
-    let counts = j.counts;
     match check {
         TraceCheck::Refused { refusal, record } => Verdict::Refused { refusal, record },
         TraceCheck::Passed => {
             copy(area, buffer, 12 * (count as usize));
             Verdict::Accepted {
-                events: counts.events,
-                fences: counts.fences,
-                findings: counts.findings,
+                events: j.counts.events,
+                fences: j.counts.fences,
+                findings: j.counts.findings,
             }
         }
     }

@@ -32,7 +32,7 @@ same-length c = search needs
 
 returns : tie.Need-returns
 returns c =
-    let j = c .before .before .before .before .before .before in
+    let j = c .before .before .before .before .before in
     let k = j .before .before .before .before .before in
     let e = j .judge-records .ensures in
     let r = ends-refused (end k) (findingSize * k .args .count) (k .args .area .now) (e .0) (c .before .check .given .1) in
@@ -46,7 +46,7 @@ same-length-3 c = search needs
 
 returns-2 : tie.Need-returns-2
 returns-2 c =
-    let j = c .before .before .before .before .before .before .before .before .before .before in
+    let j = c .before .before .before .before .before .before .before .before .before in
     let k = j .before .before .before .before .before in
     let e = j .judge-records .ensures in
     let r =

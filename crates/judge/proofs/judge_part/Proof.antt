@@ -1,8 +1,7 @@
 -- `judge::judge_part` meets its contract: either buffer has room for the findings.
 -- Assumes nothing.
 use mathlib.Core.Path.{refl}
-use native.Mathlib.Omega.{arith}
-use Rattle.judge.proofs.Buffer.{short-buffer, long-buffer, judged-into}
+use Rattle.judge.proofs.Buffer.{short-buffer, long-buffer, short-room, judged-into}
 use Rattle.judge.proofs.judge_part.Statement.{statement}
 use Rattle.judge.proofs.judge_part.Tie as tie
 
@@ -10,7 +9,10 @@ slice-aggregate-judge-by : tie.Need-slice-aggregate-judge-by
 slice-aggregate-judge-by c = refl
 
 judge-by-requires : tie.Need-judge-by-requires
-judge-by-requires c κs = (omega arith, c .before .before .before .before .before .pre .1)
+judge-by-requires c κs =
+    let i = c .before .before in
+    let k = i .before .before .before in
+    (short-room (k .args .count) (i .if1 .taken), k .pre .1)
 
 same-length : tie.Need-same-length
 same-length c = c .before .before .before .judge-by .kept .1 .1 .1 .1 .0
@@ -27,7 +29,7 @@ slice-aggregate-judge-by-2 : tie.Need-slice-aggregate-judge-by-2
 slice-aggregate-judge-by-2 c = refl
 
 judge-by-requires-2 : tie.Need-judge-by-requires-2
-judge-by-requires-2 c κs = (c .before .before .before .before .before .pre .0, c .before .before .before .before .before .pre .1)
+judge-by-requires-2 c κs = c .before .before .before .before .before .pre
 
 same-length-2 : tie.Need-same-length-2
 same-length-2 c = c .before .before .before .judge-by2 .kept .1 .1 .1 .1 .0
