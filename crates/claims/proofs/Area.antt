@@ -16,7 +16,7 @@ use Rattle.history.specs.Found.{findingBy}
 use Rattle.history.specs.Given.{Accepted, accepted, answers}
 use Rattle.history.proofs.Given.{answer-found}
 use Rattle.trace.specs.Records.{eventsOf}
-use Rattle.judge.specs.Verdict.{findingsBytes}
+use Rattle.verdict.specs.Verdict.{findingsBytes}
 use Rattle.claims.specs.Traces.{Takes}
 
 -- records that are all taken are events

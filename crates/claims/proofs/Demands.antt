@@ -28,7 +28,7 @@ use Rattle.engine.specs.declared.Asked.the-variants.{Refused as AskRefused, Kno
 use Rattle.engine.specs.declared.Closing.the-variants.{Refused as CloseRefused}
 use Rattle.engine.specs.Call.{emptyRun, freshOf, askOf, closeOf}
 use Rattle.trace.specs.Records.{linesIn, recordsIn}
-use Rattle.judge.specs.Verdict.{traceLimits}
+use Rattle.verdict.specs.Verdict.{traceLimits}
 use Rattle.claims.specs.After.{runFrom, takenFrom}
 use Rattle.claims.specs.Demand1.{Demand1}
 use Rattle.claims.specs.Demand2.{Demand2}

@@ -34,9 +34,9 @@ use Rattle.trace.specs.Trailer.{trailerOf}
 use Rattle.trace.specs.Records.{recordPart, linesIn, recordsIn, eventsIn}
 use Rattle.trace.proofs.Lines.{window-lines}
 use Rattle.trace.proofs.RecordsNext.{records-counted}
-use Rattle.judge.specs.declared.Verdict.the-variants.{Refused as RefusedAt, Accepted as Totalled}
-use Rattle.judge.specs.Verdict.{areaSize, traceLimits, traceCheck, historyOf, answersOf, verdictOf, findingsBytes, areaAfter}
-use Rattle.judge.proofs.Outcome.{totalled, area-holds}
+use Rattle.verdict.specs.declared.Verdict.the-variants.{Refused as RefusedAt, Accepted as Totalled}
+use Rattle.verdict.specs.Verdict.{areaSize, traceLimits, traceCheck, historyOf, answersOf, verdictOf, findingsBytes, areaAfter}
+use Rattle.verdict.proofs.Outcome.{totalled, area-holds}
 use Rattle.claims.specs.After.{runFrom}
 use Rattle.claims.specs.Traces.{Takes, GivenSingly}
 use Rattle.claims.proofs.Answers.{Limited, limited, same, taken, closing-totals}

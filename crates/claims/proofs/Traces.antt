@@ -20,9 +20,9 @@ use Rattle.history.proofs.Given.{first-broken, none-broken}
 use Rattle.trace.specs.declared.TraceCheck.the-variants.{Passed, Refused}
 use Rattle.trace.specs.Records.{linesIn, recordsIn}
 use Rattle.trace.specs.Checked.{unlessBroken, checkFrom, checkAll}
-use Rattle.judge.specs.declared.Verdict.the-variants.{Refused as RefusedAt}
-use Rattle.judge.specs.Verdict.{traceLimits, traceCheck, verdictOf}
-use Rattle.judge.proofs.Outcome.{refuses, area-stays, totalled}
+use Rattle.verdict.specs.declared.Verdict.the-variants.{Refused as RefusedAt}
+use Rattle.verdict.specs.Verdict.{traceLimits, traceCheck, verdictOf}
+use Rattle.verdict.proofs.Outcome.{refuses, area-stays, totalled}
 use Rattle.claims.specs.Traces.{Stops, Takes, Rejected}
 use Rattle.claims.proofs.Answers.{Limited, limited}
 

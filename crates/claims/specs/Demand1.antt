@@ -21,8 +21,8 @@ use Rattle.engine.specs.declared.Asked.the-variants.{Refused as AskRefused}
 use Rattle.engine.specs.declared.Closing.the-variants.{Refused as CloseRefused}
 use Rattle.engine.specs.Call.{emptyRun, freshOf, askOf, closeOf}
 use Rattle.trace.specs.Records.{linesIn, recordsIn}
-use Rattle.judge.specs.declared.Verdict.the-variants.{Refused as RefusedAt}
-use Rattle.judge.specs.Verdict.{traceLimits, verdictOf}
+use Rattle.verdict.specs.declared.Verdict.the-variants.{Refused as RefusedAt}
+use Rattle.verdict.specs.Verdict.{traceLimits, verdictOf}
 use Rattle.claims.specs.After.{runFrom, takenFrom}
 use Rattle.claims.specs.Traces.{Stops, Takes, Rejected}
 

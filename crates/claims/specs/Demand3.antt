@@ -21,8 +21,8 @@ use Rattle.history.specs.Given.{windowOf, Accepted, ClaimRun, reported}
 use Rattle.tables.specs.Give.{giveOf}
 use Rattle.engine.specs.declared.Closing.the-variants.{Totals}
 use Rattle.engine.specs.Call.{closeOf}
-use Rattle.judge.specs.declared.Verdict.the-variants.{Accepted as Totalled}
-use Rattle.judge.specs.Verdict.{verdictOf}
+use Rattle.verdict.specs.declared.Verdict.the-variants.{Accepted as Totalled}
+use Rattle.verdict.specs.Verdict.{verdictOf}
 use Rattle.claims.specs.After.{runFrom, takenFrom, answersFrom}
 use Rattle.claims.specs.Traces.{GivenSingly}
 

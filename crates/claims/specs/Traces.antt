@@ -17,8 +17,8 @@ use Rattle.tables.specs.Give.{giveOf}
 use Rattle.engine.specs.declared.Closing.the-variants.{Totals}
 use Rattle.engine.specs.Call.{freshOf, closeOf}
 use Rattle.trace.specs.Records.{linesIn, recordsIn, eventsIn}
-use Rattle.judge.specs.declared.Verdict.the-variants.{Refused}
-use Rattle.judge.specs.Verdict.{areaSize, verdictOf, areaAfter}
+use Rattle.verdict.specs.declared.Verdict.the-variants.{Refused}
+use Rattle.verdict.specs.Verdict.{areaSize, verdictOf, areaAfter}
 use Rattle.claims.specs.After.{runFrom}
 
 -- of the records from number n on, after the history, number m is the first that is refused, and x refuses it

@@ -4,7 +4,7 @@ use mathlib.Core.Bool.{Bool, true, false}
 use mathlib.Core.List.{List}
 use Prim.Native.Nat.{ℕ}
 use Rattle.event.proofs.Bools.{contradiction}
-use Rattle.judge.specs.Verdict.{areaAfter}
+use Rattle.verdict.specs.Verdict.{areaAfter}
 use Rattle.listing.specs.Report.{reportOf}
 use Rattle.corpus.specs.Agrees.{Agrees, Tests}
 

@@ -6,9 +6,9 @@ use native.Mathlib.Omega.{arith}
 use lib.ListN.{getD}
 use Rattle.event.specs.declared.Refusal.{Refusal}
 use Rattle.event.specs.Numbers.{numberOf}
-use Rattle.judge.specs.declared.Verdict.{Verdict}
-use Rattle.judge.specs.declared.Verdict.the-variants.{Refused, Accepted}
-use Rattle.judge.specs.Verdict.{verdictOf, areaAfter}
+use Rattle.verdict.specs.declared.Verdict.{Verdict}
+use Rattle.verdict.specs.declared.Verdict.the-variants.{Refused, Accepted}
+use Rattle.verdict.specs.Verdict.{verdictOf, areaAfter}
 use Rattle.codec.specs.Codec.{findingSize}
 use Rattle.corpus.specs.Tally.{counted, placeOf, kindsFrom, kindsIn}
 

@@ -4,7 +4,7 @@ use mathlib.Core.Bool.{Bool, true}
 use mathlib.Core.List.{List}
 use Prim.Native.Nat.{ℕ}
 use lib.ListN.{replicate}
-use Rattle.judge.specs.Verdict.{areaAfter}
+use Rattle.verdict.specs.Verdict.{areaAfter}
 use Rattle.listing.specs.Report.{reportOf}
 
 -- an area of so many bytes before a trace is judged into it: every byte is A5h

@@ -1,5 +1,5 @@
 -- The verdict and the area from where the records lead, for either outcome of their check.
-use mathlib.Core.Path.{_≡_, _∙_}
+use mathlib.Core.Path.{_≡_}
 use mathlib.Core.List.{List, _++_}
 use Prim.Native.Nat.{ℕ}
 use lib.ListN.{take, drop}
@@ -8,8 +8,9 @@ use Rattle.event.proofs.Laws.{equal-by}
 use Rattle.tables.specs.declared.Counts.{Counts}
 use Rattle.trace.specs.declared.TraceCheck.{TraceCheck}
 use Rattle.trace.specs.declared.TraceCheck.the-variants.{Passed, Refused as RefusedAt}
-use Rattle.judge.specs.declared.Verdict.the-variants.{Refused, Accepted}
-use Rattle.judge.specs.Pass.{Ended, verdictBy, areaBy}
+use Rattle.verdict.specs.declared.Verdict.the-variants.{Refused, Accepted}
+use Rattle.pass.specs.Pass.{Ended}
+use Rattle.judge.specs.Ends.{verdictBy, areaBy}
 
 module _ (e : Ended) (size : ℕ) (area : List ℕ) {check : TraceCheck} (is : check ≡ e .check) where
   -- a refusal

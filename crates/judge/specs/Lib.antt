@@ -1,3 +1,2 @@
--- A whole trace judged into a findings area.
-pub mod Verdict  -- what the judge answers, and what the findings area then holds
-pub mod Pass  -- the records given to a run one after another, as the code goes over them
+-- What the judge makes of the records of a trace.
+pub mod Ends  -- the buffer for them, and the verdict and the area from where they lead

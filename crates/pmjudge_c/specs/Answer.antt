@@ -3,8 +3,8 @@
 use mathlib.Core.List.{List, [], _∷_}
 use Prim.Native.Nat.{ℕ}
 use Rattle.event.specs.Numbers.{numberOf}
-use Rattle.judge.specs.declared.Verdict.{Verdict}
-use Rattle.judge.specs.declared.Verdict.the-variants.{Refused, Accepted}
+use Rattle.verdict.specs.declared.Verdict.{Verdict}
+use Rattle.verdict.specs.declared.Verdict.the-variants.{Refused, Accepted}
 
 abbrev pub answerOf : Verdict → List ℕ
 answerOf (Refused refusal at) = numberOf refusal ∷ at ∷ 0 ∷ 0 ∷ 0 ∷ []

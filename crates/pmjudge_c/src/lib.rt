@@ -1,8 +1,8 @@
 // The judge for programs in C or Rust: one call. Its name starts with the library's, since a name is the whole program's, as in C.
 use event::numbers;
-use judge::Verdict;
+use verdict::Verdict;
 ghost use mathlib.Core.Path.{_≡_};
-ghost use Rattle.judge.specs.Verdict.{verdictOf, areaAfter};
+ghost use Rattle.verdict.specs.Verdict.{verdictOf, areaAfter};
 ghost use Rattle.pmjudge_c.specs.Answer.{answerOf};
 
 // The answer as numbers.

@@ -7,7 +7,7 @@ use Prim.Native.Nat.{_≤_, _-_}
 use native.Mathlib.Omega.{arith}
 use lib.ListN.{length, length-set}
 use borrow.Author.Needs.{needs}
-use Rattle.judge.proofs.Placed.{copied, copy-more}
+use Rattle.judge.proofs.Copied.{copied, copy-more}
 
 abbrev Inv-loop : tie.InvT-loop
 Inv-loop area₀ buffer n i₀ area i = (i ≤ n) × (length area ≡ length area₀) × (area ≡ copied area₀ buffer i)

@@ -4,15 +4,13 @@ use borrow.Author.Needs.{needs}
 use Rattle.judge.proofs.judge_by.Statement.{statement}
 use Rattle.judge.proofs.judge_by.Tie as tie
 use Prim.Native.Nat.{_*_}
-use Rattle.engine.specs.Call.{emptyRun}
-use Rattle.trace.specs.Records.{recordsOf}
 use Rattle.codec.specs.Codec.{findingSize}
-use Rattle.judge.specs.Pass.{stage, Ended, recordsJudged}
+use Rattle.pass.specs.Pass.{Ended, allJudged}
 use Rattle.judge.proofs.Ends.{ends-refused, ends-passed}
 
 -- where the records lead
 abbrev end : tie.Start → Ended
-end c = let k = c .args in recordsJudged (recordsOf (k .count) (k .records .now)) 1 0 (stage (emptyRun (k .lines)) (k .buffer .now))
+end c = let k = c .args in allJudged (k .count) (k .lines) (k .records .now) (k .buffer .now)
 
 judge-records-requires : tie.Need-judge-records-requires
 judge-records-requires c κs = search needs
@@ -34,7 +32,7 @@ same-length c = search needs
 
 returns : tie.Need-returns
 returns c =
-    let j = c .before .before .before .before .before .before in
+    let j = c .before .before .before .before .before in
     let k = j .before .before .before .before .before in
     let e = j .judge-records .ensures in
     let r = ends-refused (end k) (findingSize * k .args .count) (k .args .area .now) (e .0) (c .before .check .given .1) in
@@ -48,7 +46,7 @@ same-length-3 c = search needs
 
 returns-2 : tie.Need-returns-2
 returns-2 c =
-    let j = c .before .before .before .before .before .before .before .before .before .before in
+    let j = c .before .before .before .before .before .before .before .before .before in
     let k = j .before .before .before .before .before in
     let e = j .judge-records .ensures in
     let r =

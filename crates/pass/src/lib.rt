@@ -1,0 +1,75 @@
+// The records of a trace, given one after another to tables that stand here; their findings go into a buffer.
+use event::Answer;
+use event::Refusal;
+use tables::Counts;
+use trace::TraceCheck;
+use trace::records;
+ghost use mathlib.Core.Path.{_≡_};
+ghost use mathlib.Core.Bool.{cond};
+ghost use lib.Dec.{eqb};
+ghost use Rattle.pass.specs.Pass.{allJudged};
+
+// What the records lead to: whether one of them is refused, or the closing, and the numbers of the run then.
+pub struct Judged {
+    pub check: TraceCheck,
+    pub counts: Counts,
+}
+
+// The closing: 13 where a transaction is open.
+fn close(depth: u16) -> TraceCheck
+    ensures { λ c. ⌜ c ≡ cond (eqb depth 0) TraceCheck.Passed (TraceCheck.Refused Refusal.TransactionOpen 0) ⌝ }
+{
+    if depth == 0 {
+        return TraceCheck::Passed;
+    }
+    TraceCheck::Refused {
+        refusal: Refusal::TransactionOpen,
+        record: 0,
+    }
+}
+
+// All records, from a fresh window, up to the first that is refused. A finding for which the buffer has no room is not written.
+pub fn judge_records(records: &[u8], count: u32, lines: u16, buffer: &mut [u8]) -> Judged
+    ensures { λ r. ⌜ r .check ≡ allJudged count lines (now (records .entry)) (now (buffer .entry)) .check ⌝ }
+    ensures { λ r. ⌜ r .counts ≡ allJudged count lines (now (records .entry)) (now (buffer .entry)) .stage .run .counts ⌝ }
+    ensures { λ _. ⌜ now (buffer .exit) ≡ allJudged count lines (now (records .entry)) (now (buffer .entry)) .stage .buffer ⌝ }
+{
+    let mut counts = tables::no_counts(lines);
+    let mut stored = [0u16; 4096];
+    let mut logged = [0u16; 4096];
+    let mut opened = [0u16; 4096];
+    let mut closed = [0u16; 4096];
+    let mut written = [0u16; 64];
+    let mut backed = [0u16; 64];
+    let mut i: u32 = 0;
+    while i < count {
+        let number = i + 1;
+        let s = record_step::judge_record(
+            counts,
+            &mut stored,
+            &mut logged,
+            &mut opened,
+            &mut closed,
+            &mut written,
+            &mut backed,
+            records::record_at(records, i),
+            12 * (i as usize),
+            buffer,
+        );
+        let answer = s.answer;
+        counts = s.counts;
+        match answer {
+            Answer::Refused(refusal) => {
+                let check = TraceCheck::Refused {
+                    refusal,
+                    record: number,
+                };
+                return Judged { check, counts };
+            }
+            Answer::Found(_) => {}
+        }
+        i = number;
+    }
+    let check = close(counts.depth);
+    Judged { check, counts }
+}

@@ -1,0 +1,40 @@
+-- One record given to a run, and its finding put into a buffer.
+use mathlib.Core.Bool.{cond}
+use mathlib.Core.List.{List, _++_}
+use Prim.Native.Nat.{ℕ, _+_}
+use lib.Dec.{leb}
+use lib.ListN.{length, take, drop}
+use Rattle.event.specs.declared.Answer.{Answer}
+use Rattle.event.specs.declared.Answer.the-variants.{Refused, Found}
+use Rattle.event.specs.declared.Parsed.{Parsed}
+use Rattle.event.specs.declared.Parsed.the-variants.{Record, Refused as Unread}
+use Rattle.codec.specs.Codec.{findingBytes}
+use Rattle.tables.specs.declared.Run.{Run}
+use Rattle.tables.specs.Give.{giveOf}
+
+-- the buffer with these bytes at a place; as it was where they do not fit
+abbrev pub placed : ℕ → List ℕ → List ℕ → List ℕ
+placed at bytes buffer = cond (leb (at + length bytes) (length buffer)) (take at buffer ++ bytes ++ drop (at + length bytes) buffer) buffer
+
+-- the buffer with an event's finding at a place
+abbrev pub placedFor : Answer → (site at : ℕ) → List ℕ → List ℕ
+placedFor (Found f) site at buffer = placed at (findingBytes f site) buffer
+placedFor (Refused x) site at buffer = buffer
+
+-- a run and a buffer
+pub record Stage : Type 0 where
+  pub run : Run
+  pub buffer : List ℕ
+
+abbrev pub stage : Run → List ℕ → Stage
+stage run buffer = record { run = run; buffer = buffer }
+
+-- what one record gets: 6 or 7 from its bytes, or what its event gets
+abbrev pub recordAnswer : Parsed → Stage → Answer
+recordAnswer (Record r) s = giveOf (s .run) r .answer
+recordAnswer (Unread x) s = Refused x
+
+-- where it leads
+abbrev pub recordGiven : Parsed → ℕ → Stage → Stage
+recordGiven (Record r) at s = stage (giveOf (s .run) r .run) (placedFor (giveOf (s .run) r .answer) (r .site) at (s .buffer))
+recordGiven (Unread x) at s = s

@@ -1,0 +1,79 @@
+// One record given to tables that the caller lends, and its finding put into a buffer.
+use event::Answer;
+use event::Parsed;
+use tables::Counts;
+use tables::Stepped;
+ghost use mathlib.Core.Path.{_≡_};
+ghost use Rattle.tables.specs.View.{runOf};
+ghost use Rattle.record_step.specs.Step.{placed, placedFor, stage, recordAnswer, recordGiven};
+
+// The 12 bytes of a finding, put at a place of the buffer; where they do not fit, the buffer stays as it was.
+fn put(buffer: &mut [u8], at: usize, bytes: [u8; 12])
+    ensures { λ _. ⌜ now (buffer .exit) ≡ placed at bytes (now (buffer .entry)) ⌝ }
+{
+    if buffer.len() < 12 || buffer.len() - 12 < at {
+        return;
+    }
+    let mut i = 0;
+    while i < 12 {
+        buffer[at + i] = bytes[i];
+        i += 1;
+    }
+}
+
+// The finding that an event got, with its site, put at a place of the buffer; nothing where the event was refused.
+fn put_found(buffer: &mut [u8], at: usize, answer: Answer, site: u16)
+    ensures { λ _. ⌜ now (buffer .exit) ≡ placedFor answer site at (now (buffer .entry)) ⌝ }
+{
+    match answer {
+        Answer::Refused(_) => {}
+        Answer::Found(f) => put(buffer, at, codec::finding_bytes(f, site)),
+    }
+}
+
+// One record given to the tables, and its finding put at a place of the buffer.
+pub fn judge_record(
+    counts: Counts,
+    stored: &mut [u16; 4096],
+    logged: &mut [u16; 4096],
+    opened: &mut [u16; 4096],
+    closed: &mut [u16; 4096],
+    written: &mut [u16; 64],
+    backed: &mut [u16; 64],
+    p: Parsed,
+    at: usize,
+    buffer: &mut [u8],
+) -> Stepped
+    ensures { λ s. ⌜
+        s .answer ≡
+        recordAnswer p
+        (stage
+        (runOf counts (now (stored .entry)) (now (logged .entry)) (now (opened .entry)) (now (closed .entry))
+        (now (written .entry)) (now (backed .entry)))
+        (now (buffer .entry)))
+        ⌝ }
+    ensures { λ s. ⌜
+        stage
+        (runOf (s .counts) (now (stored .exit)) (now (logged .exit)) (now (opened .exit)) (now (closed .exit))
+        (now (written .exit)) (now (backed .exit)))
+        (now (buffer .exit)) ≡
+        recordGiven p at
+        (stage
+        (runOf counts (now (stored .entry)) (now (logged .entry)) (now (opened .entry)) (now (closed .entry))
+        (now (written .entry)) (now (backed .entry)))
+        (now (buffer .entry)))
+        ⌝ }
+{
+    match p {
+        Parsed::Refused(x) => Stepped {
+            answer: Answer::Refused(x),
+            counts,
+        },
+        Parsed::Record(r) => {
+            let s = tables::step(counts, stored, logged, opened, closed, written, backed, r);
+            let answer = s.answer;
+            put_found(buffer, at, answer, r.site);
+            s
+        }
+    }
+}
