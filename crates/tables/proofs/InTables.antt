@@ -1,0 +1,33 @@
+-- The part of a range that the tables have.
+use mathlib.Core.Path.{_≡_, refl}
+use mathlib.Core.Bool.{Bool, true, false}
+use Prim.Native.Nat.{_+_, _-_, _/_, _≤_, min}
+use native.Mathlib.Omega.{arith}
+use borrow.Author.Tests.{eqb-false}
+use Rattle.event.specs.declared.Range.{Range}
+use Rattle.event.specs.Window.{lineOf, lineCount, rangeEnd, isEmpty}
+use Rattle.tables.specs.Table.{inTables}
+
+-- it is within them
+pub in-tables-end : (a : Range) → rangeEnd (inTables a) ≤ 4096
+in-tables-end a = omega arith
+
+-- and so are its lines
+pub in-tables-lines : (a : Range) → lineOf (inTables a .address) + lineCount (inTables a) ≤ 64
+in-tables-lines a = go (isEmpty (inTables a)) refl
+  where
+    go : (t : Bool) → isEmpty (inTables a) ≡ t → lineOf (inTables a .address) + lineCount (inTables a) ≤ 64
+    go true e =
+        let none : lineCount (inTables a) ≡ 0 = rw e in
+        omega arith
+    go false e =
+        let some : inTables a .length ≡ 0 → ⊥ = eqb-false (inTables a .length) 0 e in
+        let all : lineCount (inTables a) ≡ (rangeEnd (inTables a) - 1) / 64 + 1 - inTables a .address / 64 = rw e in
+        omega arith
+
+-- a range within them is all there
+pub in-tables : (a : Range) → rangeEnd a ≤ 4096 → inTables a ≡ a
+in-tables a h =
+    let address : min (a .address) 4096 ≡ a .address = omega arith in
+    let length : min (a .length) (4096 - a .address) ≡ a .length = omega arith in
+    rw (address, length)
