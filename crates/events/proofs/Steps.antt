@@ -14,14 +14,14 @@ use Rattle.event.specs.declared.Answer.the-variants.{Refused}
 use Rattle.event.specs.Window.{windowBytes}
 use Rattle.history.specs.Refused.{refusalBy}
 use Rattle.history.specs.Found.{findingBy}
 use Rattle.tables.specs.declared.Run.{Run}
-use Rattle.tables.specs.declared.Given.{Given}
-use Rattle.tables.specs.declared.Stepped.{Stepped}
+use Rattle.events.specs.declared.Given.{Given}
+use Rattle.events.specs.declared.Stepped.{Stepped}
 use Rattle.tables.specs.Table.{changed, filledBytes, filledLines}
 use Rattle.tables.specs.View.{runOf, noCounts, linesOf, limitsOf, ofRun}
 use Rattle.tables.specs.Tests.{durableFrom, endedFrom, fenced}
-use Rattle.tables.specs.Next.{numberOf, oneMore, tablesAfter}
-use Rattle.tables.specs.Give.{outcomeOf, steppedFor, givenFor, giveOf}
+use Rattle.events.specs.Next.{numberOf, oneMore, tablesAfter}
+use Rattle.events.specs.Give.{outcomeOf, steppedFor, givenFor, giveOf}
 use Rattle.tables.proofs.Tests.{persisted-found, end-found, ordered-tables, fence-closed}
 
 module _ (run : Run) (r : Record) where

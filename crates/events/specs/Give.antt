@@ -9,12 +9,12 @@ use Rattle.event.specs.declared.Check.the-variants.{Passed, Refused as Breaks}
 use Rattle.event.specs.declared.Answer.the-variants.{Refused, Found}
 use Rattle.history.specs.Refused.{refusalBy}
 use Rattle.history.specs.Found.{findingBy}
 use Rattle.tables.specs.declared.Counts.{Counts}
 use Rattle.tables.specs.declared.Run.{Run}
-use Rattle.tables.specs.declared.Given.{Given}
-use Rattle.tables.specs.declared.Stepped.{Stepped}
+use Rattle.events.specs.declared.Given.{Given}
+use Rattle.events.specs.declared.Stepped.{Stepped}
 use Rattle.tables.specs.View.{runOf, ofRun}
-use Rattle.tables.specs.Next.{countsAfter, tablesAfter}
+use Rattle.events.specs.Next.{countsAfter, tablesAfter}
 
 -- the run after an accepted event that got this finding
 abbrev pub nextOf : Run → Event → Finding → Run

@@ -297,8 +297,6 @@ pub fn step(
                 counts: unchanged,
             }
         }
-        Check::Passed => {
-            accept(counts, stored, logged, opened, closed, written, backed, e)
-        }
+        Check::Passed => { accept(counts, stored, logged, opened, closed, written, backed, e) }
     }
 }

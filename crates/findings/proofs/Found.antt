@@ -13,15 +13,15 @@ use Rattle.event.specs.declared.Event.the-variants.{Store, WriteBack, End, Pers
 use Rattle.event.specs.declared.Finding.the-variants.{None, Unlogged}
 use Rattle.event.specs.Window.{lineOf, lineCount}
 use Rattle.history.specs.Found.{Pair, lowest, lowestIn, lowestPair, foundOr, unlogged, clean, writtenTwice, warnedLine, isOpen, atRisk, openedAt, closedBy, breaks, inOrder, findingBy}
 use Rattle.tables.specs.declared.Counts.{Counts}
 use Rattle.tables.specs.declared.Run.{Run}
 use Rattle.tables.specs.Table.{entry, changed}
 use Rattle.tables.specs.View.{runOf, noCounts, intervalFrom, ofRun}
-use Rattle.tables.specs.declared.Test.the-variants.{NotSince, OpenSince, Wasted}
+use Rattle.searches.specs.declared.Test.the-variants.{NotSince, OpenSince, Wasted}
 use Rattle.tables.specs.Tests.{passesBy, passing, brokenPair, isBroken, durableFrom, lostAtEnd, endedFrom, fenced}
-use Rattle.tables.specs.Next.{closes}
+use Rattle.events.specs.Next.{closes}
 use Rattle.tables.proofs.Table.{changed-same}
-use Rattle.tables.proofs.Searched.{lowest-none}
+use Rattle.searches.proofs.Searched.{lowest-none}
 
 -- an interval is open after a store that no fence has closed
 open-test : (s o k : ℕ) → isOpen (intervalFrom s o k) ≡ passesBy (OpenSince 0) s k

@@ -7,11 +7,11 @@ use native.Mathlib.Omega.{arith}
 use borrow.Author.Tests.{lt-ltb, le-ltb}
 use Rattle.event.specs.Window.{lineOf, lineStart}
 use Rattle.history.specs.Found.{lowest}
-use Rattle.tables.specs.declared.Search.{Search}
-use Rattle.tables.specs.declared.Test.the-variants.{OpenSince}
+use Rattle.searches.specs.declared.Search.{Search}
+use Rattle.searches.specs.declared.Test.the-variants.{OpenSince}
 use Rattle.tables.specs.Table.{entry}
-use Rattle.tables.specs.Tests.{searched, passing, lostAtEnd}
-use Rattle.tables.proofs.Searched.{lowest-none, lowest-same}
+use Rattle.searches.specs.Tests.{searched, passing, lostAtEnd}
+use Rattle.searches.proofs.Searched.{lowest-none, lowest-same}
 
 module _ (begin : ℕ) (stored closed written : List ℕ) (l : ℕ) where
   -- a line not stored to since the begin has nothing

@@ -9,12 +9,12 @@ use native.Mathlib.Nat.{zero-add, add-zero}
 use native.Mathlib.Decide.{ℕ-discrete as decEq}
 use lib.Dec.{ltb}
 use Rattle.history.specs.Found.{lowest}
-use Rattle.tables.specs.declared.Test.the-variants.{OpenSince, Open}
-use Rattle.tables.specs.declared.Search.{Search}
-use Rattle.tables.specs.declared.Search.the-variants.{At}
+use Rattle.searches.specs.declared.Test.the-variants.{OpenSince, Open}
+use Rattle.searches.specs.declared.Search.{Search}
+use Rattle.searches.specs.declared.Search.the-variants.{At}
 use Rattle.tables.specs.Table.{entry}
-use Rattle.tables.specs.Tests.{searched, isFound, passing, skipped}
-use Rattle.tables.proofs.FromFront.{left, left-all}
+use Rattle.searches.specs.Tests.{searched, isFound, passing, skipped}
+use Rattle.searches.proofs.FromFront.{left, left-all}
 
 -- what the first search found, or else what the second did
 abbrev orNext : Option ℕ → Option ℕ → Option ℕ

@@ -8,7 +8,7 @@ use native.Mathlib.Omega.{arith}
 use native.Mathlib.Decide.{ℕ-discrete as decEq}
 use lib.Dec.{eqb, ltb}
 use borrow.Author.Tests.{eq-eqb, ne-eqb, lt-ltb, le-ltb, ltb-true, ltb-false}
-use Rattle.tables.specs.Tests.{closedNow}
+use Rattle.writes.specs.Fenced.{closedNow}
 
 -- a closed byte stays as it is
 pub closed-before : (back epoch store closed : ℕ) → closed ≢ 0 → closed ≡ closedNow back epoch store closed

@@ -8,11 +8,12 @@ use borrow.Author.Tests.{lt-ltb, le-ltb}
 use lib.Dec.{ltb}
 use Rattle.event.specs.Window.{windowBytes, lineOf, lineStart}
 use Rattle.history.specs.Found.{lowest}
-use Rattle.tables.specs.declared.Test.the-variants.{Since}
+use Rattle.searches.specs.declared.Test.the-variants.{Since}
 use Rattle.tables.specs.Table.{entry, changed}
-use Rattle.tables.specs.Tests.{closedNow, fenced, isFound, passing}
+use Rattle.searches.specs.Tests.{isFound, passing}
+use Rattle.writes.specs.Fenced.{closedNow, fenced}
 use Rattle.tables.proofs.Table.{changed-add, changed-same, changed-kept}
-use Rattle.tables.proofs.Parts.{none-there}
+use Rattle.searches.proofs.Parts.{none-there}
 
 module _ (fence epoch : ℕ) (stored backed : List ℕ) where
   -- these bytes after the fence

@@ -1,4 +1,4 @@
--- `tables::events::accept` meets its contract, kind by kind: the limits keep the numbers and the ranges within the tables.
+-- `events::accept` meets its contract, kind by kind: the limits keep the numbers and the ranges within the tables.
 -- Assumes nothing.
 use mathlib.Core.Path.{_≡_, ap}
 use mathlib.Core.List.{List, [], _∷_}
@@ -7,12 +7,12 @@ use borrow.Author.Needs.{needs}
 use Rattle.event.specs.declared.Range.{Range}
 use Rattle.event.specs.Window.{rangeEnd, rangesOf}
 use Rattle.limits.proofs.Passed.{begin-below, end-inside}
 use Rattle.tables.specs.declared.Run.{Run}
 use Rattle.tables.specs.View.{linesOf, runOf}
-use Rattle.tables.proofs.Passed.{passes, first-range, second-range}
-use Rattle.tables.proofs.Steps.{store-taken, back-taken, fence-taken, begin-taken, log-taken, end-taken, persisted-taken, ordered-taken}
-use Rattle.tables.proofs.events.accept.Statement.{statement}
-use Rattle.tables.proofs.events.accept.Tie as tie
+use Rattle.events.proofs.Passed.{passes, first-range, second-range}
+use Rattle.events.proofs.Steps.{store-taken, back-taken, fence-taken, begin-taken, log-taken, end-taken, persisted-taken, ordered-taken}
+use Rattle.events.proofs.accept.Statement.{statement}
+use Rattle.events.proofs.accept.Tie as tie
 
 -- the run of the tables as they were lent
 abbrev entry-run : tie.Start → Run

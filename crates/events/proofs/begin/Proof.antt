@@ -1,11 +1,11 @@
--- `tables::events::begin` meets its contract: the outermost begin is this one where none was open.
+-- `events::begin` meets its contract: the outermost begin is this one where none was open.
 -- Assumes nothing.
 use native.Mathlib.Numerals.{add-one}
 use borrow.Author.Needs.{needs}
 use borrow.Author.Tests.{eq-eqb, ne-eqb}
-use Rattle.tables.specs.Next.{countsAfter}
-use Rattle.tables.proofs.events.begin.Statement.{statement}
-use Rattle.tables.proofs.events.begin.Tie as tie
+use Rattle.events.specs.Next.{countsAfter}
+use Rattle.events.proofs.begin.Statement.{statement}
+use Rattle.events.proofs.begin.Tie as tie
 
 counted-requires : tie.Need-counted-requires
 counted-requires c κs = search needs

@@ -1,9 +1,9 @@
--- `tables::updates::counted` meets its contract: one more event, and the findings that its call ensures.
+-- `events::counted` meets its contract: one more event, and the findings that its call ensures.
 -- Assumes nothing.
 use native.Mathlib.Numerals.{add-one}
 use borrow.Author.Needs.{needs}
-use Rattle.tables.proofs.updates.counted.Statement.{statement}
-use Rattle.tables.proofs.updates.counted.Tie as tie
+use Rattle.events.proofs.counted.Statement.{statement}
+use Rattle.events.proofs.counted.Tie as tie
 
 add-t3 : tie.Need-add-t3
 add-t3 c = search needs

@@ -1,10 +1,10 @@
--- `tables::events::end` meets its contract: its finding, one more event, and one transaction less.
+-- `events::end` meets its contract: its finding, one more event, and one transaction less.
 -- Assumes nothing.
 use native.Mathlib.Numerals.{sub-one}
 use borrow.Author.Needs.{needs}
-use Rattle.tables.specs.Next.{countsAfter}
-use Rattle.tables.proofs.events.end.Statement.{statement}
-use Rattle.tables.proofs.events.end.Tie as tie
+use Rattle.events.specs.Next.{countsAfter}
+use Rattle.events.proofs.end.Statement.{statement}
+use Rattle.events.proofs.end.Tie as tie
 
 of-end-requires : tie.Need-of-end-requires
 of-end-requires c κs = search needs

@@ -1,11 +1,11 @@
--- `tables::events::fence` meets its contract: the numbers with this as the latest fence, and the table that its call ensures.
+-- `events::fence` meets its contract: the numbers with this as the latest fence, and the table that its call ensures.
 -- Assumes nothing.
 use mathlib.Core.Path.{_≡_, _∙_}
 use native.Mathlib.Numerals.{add-one}
 use borrow.Author.Needs.{needs}
-use Rattle.tables.specs.Next.{oneMore, countsAfter}
-use Rattle.tables.proofs.events.fence.Statement.{statement}
-use Rattle.tables.proofs.events.fence.Tie as tie
+use Rattle.events.specs.Next.{oneMore, countsAfter}
+use Rattle.events.proofs.fence.Statement.{statement}
+use Rattle.events.proofs.fence.Tie as tie
 
 wrapping-add-u16-requires : tie.Need-wrapping-add-u16-requires
 wrapping-add-u16-requires c κs = search needs

@@ -1,12 +1,12 @@
--- `tables::updates::findings_after` meets its contract: a finding of kind 0 is not counted.
+-- `events::findings_after` meets its contract: a finding of kind 0 is not counted.
 -- Assumes nothing.
 use mathlib.Core.Path.{ap, sym, _∙_}
 use native.Mathlib.Numerals.{add-one}
 use borrow.Author.Needs.{needs}
 use borrow.Author.Tests.{eq-eqb, ne-eqb}
 use Rattle.event.specs.declared.Fields.{Fields}
-use Rattle.tables.proofs.updates.findings_after.Statement.{statement}
-use Rattle.tables.proofs.updates.findings_after.Tie as tie
+use Rattle.events.proofs.findings_after.Statement.{statement}
+use Rattle.events.proofs.findings_after.Tie as tie
 
 fields-requires : tie.Need-fields-requires
 fields-requires c κs = search needs

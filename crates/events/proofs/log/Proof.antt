@@ -1,9 +1,9 @@
--- `tables::events::log` meets its contract: its finding, one more event, and the table that its call ensures.
+-- `events::log` meets its contract: its finding, one more event, and the table that its call ensures.
 -- Assumes nothing.
 use borrow.Author.Needs.{needs}
-use Rattle.tables.specs.Next.{countsAfter}
-use Rattle.tables.proofs.events.log.Statement.{statement}
-use Rattle.tables.proofs.events.log.Tie as tie
+use Rattle.events.specs.Next.{countsAfter}
+use Rattle.events.proofs.log.Statement.{statement}
+use Rattle.events.proofs.log.Tie as tie
 
 of-log-requires : tie.Need-of-log-requires
 of-log-requires c κs = search needs

@@ -1,9 +1,9 @@
--- `tables::events::ordered` meets its contract: its finding, and one more event.
+-- `events::ordered` meets its contract: its finding, and one more event.
 -- Assumes nothing.
 use borrow.Author.Needs.{needs}
-use Rattle.tables.specs.Next.{countsAfter}
-use Rattle.tables.proofs.events.ordered.Statement.{statement}
-use Rattle.tables.proofs.events.ordered.Tie as tie
+use Rattle.events.specs.Next.{countsAfter}
+use Rattle.events.proofs.ordered.Statement.{statement}
+use Rattle.events.proofs.ordered.Tie as tie
 
 of-ordered-requires : tie.Need-of-ordered-requires
 of-ordered-requires c κs = search needs

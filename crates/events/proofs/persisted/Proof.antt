@@ -1,9 +1,9 @@
--- `tables::events::persisted` meets its contract: its finding, and one more event.
+-- `events::persisted` meets its contract: its finding, and one more event.
 -- Assumes nothing.
 use borrow.Author.Needs.{needs}
-use Rattle.tables.specs.Next.{countsAfter}
-use Rattle.tables.proofs.events.persisted.Statement.{statement}
-use Rattle.tables.proofs.events.persisted.Tie as tie
+use Rattle.events.specs.Next.{countsAfter}
+use Rattle.events.proofs.persisted.Statement.{statement}
+use Rattle.events.proofs.persisted.Tie as tie
 
 of-persisted-requires : tie.Need-of-persisted-requires
 of-persisted-requires c κs = search needs

@@ -1,15 +1,15 @@
--- `tables::step` meets its contract: the check of the limits and the accepted event make up the outcome.
+-- `events::step` meets its contract: the check of the limits and the accepted event make up the outcome.
 -- Assumes nothing.
 use mathlib.Core.Path.{_≡_}
 use borrow.Author.Needs.{needs}
 use Rattle.event.specs.declared.Check.the-variants.{Passed}
 use Rattle.event.proofs.Laws.{equal-by}
 use Rattle.history.specs.Refused.{refusalBy}
 use Rattle.tables.specs.declared.Run.{Run}
 use Rattle.tables.specs.View.{runOf, limitsOf}
-use Rattle.tables.proofs.Steps.{step-refused, step-taken}
-use Rattle.tables.proofs.step.Statement.{statement}
-use Rattle.tables.proofs.step.Tie as tie
+use Rattle.events.proofs.Steps.{step-refused, step-taken}
+use Rattle.events.proofs.step.Statement.{statement}
+use Rattle.events.proofs.step.Tie as tie
 
 -- the function's entry, from where the limits were checked
 abbrev start : tie.After-check-event → tie.Start

@@ -1,9 +1,9 @@
--- `tables::events::store` meets its contract: its finding, the numbers with this as the latest store, and the tables that its call ensures.
+-- `events::store` meets its contract: its finding, the numbers with this as the latest store, and the tables that its call ensures.
 -- Assumes nothing.
 use borrow.Author.Needs.{needs}
-use Rattle.tables.specs.Next.{countsAfter}
-use Rattle.tables.proofs.events.store.Statement.{statement}
-use Rattle.tables.proofs.events.store.Tie as tie
+use Rattle.events.specs.Next.{countsAfter}
+use Rattle.events.proofs.store.Statement.{statement}
+use Rattle.events.proofs.store.Tie as tie
 
 of-store-requires : tie.Need-of-store-requires
 of-store-requires c κs = search needs

@@ -1,9 +1,9 @@
--- `tables::events::write_back` meets its contract: its finding, one more event, and the table that its call ensures.
+-- `events::write_back` meets its contract: its finding, one more event, and the table that its call ensures.
 -- Assumes nothing.
 use borrow.Author.Needs.{needs}
-use Rattle.tables.specs.Next.{countsAfter}
-use Rattle.tables.proofs.events.write_back.Statement.{statement}
-use Rattle.tables.proofs.events.write_back.Tie as tie
+use Rattle.events.specs.Next.{countsAfter}
+use Rattle.events.proofs.write_back.Statement.{statement}
+use Rattle.events.proofs.write_back.Tie as tie
 
 of-back-requires : tie.Need-of-back-requires
 of-back-requires c κs = search needs

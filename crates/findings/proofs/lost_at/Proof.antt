@@ -1,11 +1,11 @@
--- `tables::findings::lost_at` meets its contract: it names the byte that the search found, which is within the tables.
+-- `findings::lost_at` meets its contract: it names the byte that the search found, which is within the tables.
 -- Assumes nothing.
 use mathlib.Core.Path.{ap}
 use native.Mathlib.Numerals.{add-one}
 use borrow.Author.Needs.{needs}
 use Rattle.tables.specs.Tests.{foundBy}
-use Rattle.tables.proofs.findings.lost_at.Statement.{statement}
-use Rattle.tables.proofs.findings.lost_at.Tie as tie
+use Rattle.findings.proofs.lost_at.Statement.{statement}
+use Rattle.findings.proofs.lost_at.Tie as tie
 
 enum-told : tie.Need-enum-told
 enum-told c = search needs

@@ -1,4 +1,4 @@
--- `tables::findings::of_back` meets its contract: the finding is at the line that the search found, which is within the tables.
+-- `findings::of_back` meets its contract: the finding is at the line that the search found, which is within the tables.
 -- Assumes nothing.
 use mathlib.Core.Path.{_≡_}
 use mathlib.Core.List.{[]}
@@ -8,14 +8,14 @@ use borrow.Author.Needs.{needs}
 use borrow.Author.Tests.{eq-eqb, ne-eqb}
 use Rattle.event.specs.Window.{lineOf, lineCount}
 use Rattle.history.specs.Found.{lowest}
-use Rattle.tables.specs.declared.Test.the-variants.{Wasted}
+use Rattle.searches.specs.declared.Test.the-variants.{Wasted}
 use Rattle.tables.specs.View.{runOf, noCounts}
 use Rattle.tables.specs.Tests.{searched, passing}
 use Rattle.tables.proofs.Tests.{back-found}
-use Rattle.tables.proofs.Searched.{found-none, found-some, lowest-below}
+use Rattle.searches.proofs.Searched.{found-none, found-some, lowest-below}
 use Rattle.tables.proofs.Lines.{lines-inside}
-use Rattle.tables.proofs.findings.of_back.Statement.{statement}
-use Rattle.tables.proofs.findings.of_back.Tie as tie
+use Rattle.findings.proofs.of_back.Statement.{statement}
+use Rattle.findings.proofs.of_back.Tie as tie
 
 -- what the search answered, over the lines of the range
 by-lines : (c : tie.After-scan) → let a = c .before .before .before .before .before .args in

@@ -1,12 +1,12 @@
--- `tables::findings::of_end` meets its contract: each way out goes by the tests that led there.
+-- `findings::of_end` meets its contract: each way out goes by the tests that led there.
 -- Assumes nothing.
 use mathlib.Core.Path.{sym, _∙_}
 use native.Mathlib.Omega.{arith}
 use borrow.Author.Needs.{needs}
 use borrow.Author.Tests.{eq-eqb, ne-eqb, lt-ltb, le-ltb}
-use Rattle.tables.proofs.Searched.{found-by, lowest-below}
-use Rattle.tables.proofs.findings.of_end.Statement.{statement}
-use Rattle.tables.proofs.findings.of_end.Tie as tie
+use Rattle.searches.proofs.Searched.{found-by, lowest-below}
+use Rattle.findings.proofs.of_end.Statement.{statement}
+use Rattle.findings.proofs.of_end.Tie as tie
 
 returns : tie.Need-returns
 returns c = simp (ne-eqb _ 1 (c .if1 .taken))

@@ -1,10 +1,10 @@
--- `tables::findings::of_log` meets its contract: the finding is at the byte that the search found.
+-- `findings::of_log` meets its contract: the finding is at the byte that the search found.
 -- Assumes nothing.
 use borrow.Author.Needs.{needs}
 use Rattle.history.specs.Found.{findingBy}
-use Rattle.tables.proofs.Searched.{found-none, found-some}
-use Rattle.tables.proofs.findings.of_log.Statement.{statement}
-use Rattle.tables.proofs.findings.of_log.Tie as tie
+use Rattle.searches.proofs.Searched.{found-none, found-some}
+use Rattle.findings.proofs.of_log.Statement.{statement}
+use Rattle.findings.proofs.of_log.Tie as tie
 
 cast-at : tie.Need-cast-at
 cast-at c = search needs

@@ -1,13 +1,13 @@
--- `tables::findings::of_ordered` meets its contract: the finding is at the pair that the search found, which is within the tables.
+-- `findings::of_ordered` meets its contract: the finding is at the pair that the search found, which is within the tables.
 -- Assumes nothing.
 use mathlib.Core.List.{[]}
 use native.Mathlib.Omega.{arith}
 use borrow.Author.Needs.{needs}
 use Rattle.tables.specs.View.{runOf, noCounts}
 use Rattle.tables.proofs.Tests.{ordered-found}
-use Rattle.tables.proofs.Searched.{found-no-pair, found-pair, pair-below}
-use Rattle.tables.proofs.findings.of_ordered.Statement.{statement}
-use Rattle.tables.proofs.findings.of_ordered.Tie as tie
+use Rattle.searches.proofs.Searched.{found-no-pair, found-pair, pair-below}
+use Rattle.findings.proofs.of_ordered.Statement.{statement}
+use Rattle.findings.proofs.of_ordered.Tie as tie
 
 first-pair-requires : tie.Need-first-pair-requires
 first-pair-requires c κs = search needs

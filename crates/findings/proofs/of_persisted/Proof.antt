@@ -1,11 +1,11 @@
--- `tables::findings::of_persisted` meets its contract: the search is over the bytes of the range, which are within the tables.
+-- `findings::of_persisted` meets its contract: the search is over the bytes of the range, which are within the tables.
 -- Assumes nothing.
 use mathlib.Core.Path.{sym, _∙_}
 use native.Mathlib.Omega.{arith}
 use borrow.Author.Needs.{needs}
-use Rattle.tables.proofs.Searched.{found-by, lowest-below}
-use Rattle.tables.proofs.findings.of_persisted.Statement.{statement}
-use Rattle.tables.proofs.findings.of_persisted.Tie as tie
+use Rattle.searches.proofs.Searched.{found-by, lowest-below}
+use Rattle.findings.proofs.of_persisted.Statement.{statement}
+use Rattle.findings.proofs.of_persisted.Tie as tie
 
 cast-at : tie.Need-cast-at
 cast-at c = search needs

@@ -1,10 +1,10 @@
--- `tables::findings::of_store` meets its contract: inside a transaction the finding is at the byte that the search found.
+-- `findings::of_store` meets its contract: inside a transaction the finding is at the byte that the search found.
 -- Assumes nothing.
 use borrow.Author.Needs.{needs}
 use Rattle.tables.proofs.Tests.{store-outside, store-inside}
-use Rattle.tables.proofs.Searched.{found-none, found-some}
-use Rattle.tables.proofs.findings.of_store.Statement.{statement}
-use Rattle.tables.proofs.findings.of_store.Tie as tie
+use Rattle.searches.proofs.Searched.{found-none, found-some}
+use Rattle.findings.proofs.of_store.Statement.{statement}
+use Rattle.findings.proofs.of_store.Tie as tie
 
 returns : tie.Need-returns
 returns c = let k = c .before .before .args in store-outside (k .counts) (k .logged .now) (k .a) (c .if1 .taken)

@@ -1,14 +1,15 @@
--- `tables::searches::any_lost` meets its contract: after i turns it has found what is among the first i.
+-- `pairs::any_lost` meets its contract: after i turns it has found what is among the first i.
 -- Assumes nothing.
 use mathlib.Core.Path.{_≡_, refl}
 use Prim.Native.Nat.{_≤_, _-_}
 use native.Mathlib.Omega.{arith}
 use borrow.Author.Needs.{needs}
 use Rattle.history.specs.Found.{lowest}
-use Rattle.tables.specs.Tests.{isFound, lostWith}
-use Rattle.tables.proofs.Parts.{found-more}
-use Rattle.tables.proofs.searches.any_lost.Statement.{statement}
-use Rattle.tables.proofs.searches.any_lost.Tie as tie
+use Rattle.searches.specs.Tests.{isFound}
+use Rattle.searches.proofs.Parts.{found-more}
+use Rattle.pairs.specs.Pairs.{lostWith}
+use Rattle.pairs.proofs.any_lost.Statement.{statement}
+use Rattle.pairs.proofs.any_lost.Tie as tie
 
 abbrev Inv-loop : tie.InvT-loop
 Inv-loop stored closed store opened line at n found₀ i₀ found i = (i ≤ n) × (found ≡ isFound (lowest (lostWith stored closed store opened line) at i))

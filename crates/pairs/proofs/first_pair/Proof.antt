@@ -1,4 +1,4 @@
--- `tables::searches::first_pair` meets its contract: the search over what is left is the whole search, for the bytes of A beside one byte
+-- `pairs::first_pair` meets its contract: the search over what is left is the whole search, for the bytes of A beside one byte
 -- of B, also after the skip, and for the bytes of B; a byte of B that was never stored to has no partner.
 -- Assumes nothing.
 use mathlib.Core.Path.{_≡_, refl, sym, _∙_}
@@ -9,10 +9,10 @@ use borrow.Author.Needs.{needs}
 use Rattle.event.proofs.Laws.{equal-by}
 use Rattle.tables.specs.Tests.{brokenPair}
 use Rattle.tables.proofs.Tests.{never-broken}
-use Rattle.tables.proofs.Parts.{skip-inside, skip-same}
-use Rattle.tables.proofs.FromFront.{left, leftPair, left-all, left-next, pair-here, pair-later, pair-never, pair-nothing}
-use Rattle.tables.proofs.searches.first_pair.Statement.{statement}
-use Rattle.tables.proofs.searches.first_pair.Tie as tie
+use Rattle.searches.proofs.Parts.{skip-inside, skip-same}
+use Rattle.searches.proofs.FromFront.{left, leftPair, left-all, left-next, pair-here, pair-later, pair-never, pair-nothing}
+use Rattle.pairs.proofs.first_pair.Statement.{statement}
+use Rattle.pairs.proofs.first_pair.Tie as tie
 
 abbrev Inv-loop : tie.InvT-loop
 Inv-loop stored opened closed a found₀ kept kept-end lost-start lost-end store epoch line lost₀ found lost = (lost ≤ lost-end) × (found ≡ found₀) × (left (brokenPair stored opened closed kept) lost-end lost ≡ left (brokenPair stored opened closed kept) lost-end lost-start)

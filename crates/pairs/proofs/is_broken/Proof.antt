@@ -1,8 +1,8 @@
--- `tables::searches::is_broken` meets its contract: its tests say the same with no branch.
+-- `pairs::is_broken` meets its contract: its tests say the same with no branch.
 -- Assumes nothing.
-use Rattle.tables.proofs.Tests.{no-branch}
-use Rattle.tables.proofs.searches.is_broken.Statement.{statement}
-use Rattle.tables.proofs.searches.is_broken.Tie as tie
+use Rattle.pairs.proofs.Broken.{no-branch}
+use Rattle.pairs.proofs.is_broken.Statement.{statement}
+use Rattle.pairs.proofs.is_broken.Tie as tie
 
 returns : tie.Need-returns
 returns c = let a = c .args in no-branch (a .kept-store) (a .lost-store) (a .one-line) (a .opened) (a .closed)

@@ -1,13 +1,13 @@
--- `tables::searches::skip_lost` meets its contract: what is left to skip leads to the same place as the whole.
+-- `pairs::skip_lost` meets its contract: what is left to skip leads to the same place as the whole.
 -- Assumes nothing.
 use mathlib.Core.Path.{_≡_, refl}
 use Prim.Native.Nat.{_≤_, _-_}
 use native.Mathlib.Omega.{arith}
 use Rattle.event.proofs.Laws.{equal-by}
-use Rattle.tables.specs.Tests.{lostWith}
-use Rattle.tables.proofs.Parts.{leftSkip, skip-here, skip-next, skip-end}
-use Rattle.tables.proofs.searches.skip_lost.Statement.{statement}
-use Rattle.tables.proofs.searches.skip_lost.Tie as tie
+use Rattle.pairs.specs.Pairs.{lostWith}
+use Rattle.searches.proofs.Parts.{leftSkip, skip-here, skip-next, skip-end}
+use Rattle.pairs.proofs.skip_lost.Statement.{statement}
+use Rattle.pairs.proofs.skip_lost.Tie as tie
 
 abbrev Inv-loop : tie.InvT-loop
 Inv-loop stored closed store opened line at n end b₀ b = let lost = lostWith stored closed store opened line in (at ≤ b) × (b ≤ end) × (leftSkip lost end b ≡ leftSkip lost end at)

@@ -1,14 +1,14 @@
--- `tables::searches::any` meets its contract: after i turns it has found what is among the first i.
+-- `searches::any` meets its contract: after i turns it has found what is among the first i.
 -- Assumes nothing.
 use mathlib.Core.Path.{_≡_, refl}
 use Prim.Native.Nat.{_≤_, _-_}
 use native.Mathlib.Omega.{arith}
 use borrow.Author.Needs.{needs}
 use Rattle.history.specs.Found.{lowest}
-use Rattle.tables.specs.Tests.{isFound, passing}
-use Rattle.tables.proofs.Parts.{found-more}
-use Rattle.tables.proofs.searches.any.Statement.{statement}
-use Rattle.tables.proofs.searches.any.Tie as tie
+use Rattle.searches.specs.Tests.{isFound, passing}
+use Rattle.searches.proofs.Parts.{found-more}
+use Rattle.searches.proofs.any.Statement.{statement}
+use Rattle.searches.proofs.any.Tie as tie
 
 abbrev Inv-loop : tie.InvT-loop
 Inv-loop test xs ys at n found₀ i₀ found i = (i ≤ n) × (found ≡ isFound (lowest (passing test xs ys) at i))

@@ -1,9 +1,9 @@
--- `tables::searches::passes` meets its contract, case by case.
+-- `searches::passes` meets its contract, case by case.
 -- Assumes nothing.
 use borrow.Author.Needs.{needs}
 use borrow.Author.Tests.{eq-eqb, ne-eqb, lt-ltb, le-ltb}
-use Rattle.tables.proofs.searches.passes.Statement.{statement}
-use Rattle.tables.proofs.searches.passes.Tie as tie
+use Rattle.searches.proofs.passes.Statement.{statement}
+use Rattle.searches.proofs.passes.Tie as tie
 
 enum-known-test : tie.Need-enum-known-test
 enum-known-test c = search needs

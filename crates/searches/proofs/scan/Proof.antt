@@ -1,14 +1,14 @@
--- `tables::searches::scan` meets its contract: the search over what is left is the whole search.
+-- `searches::scan` meets its contract: the search over what is left is the whole search.
 -- Assumes nothing.
 use mathlib.Core.Path.{_≡_, refl}
 use Prim.Native.Nat.{_≤_, _-_}
 use native.Mathlib.Omega.{arith}
 use borrow.Author.Needs.{needs}
 use Rattle.event.proofs.Laws.{equal-by}
-use Rattle.tables.specs.Tests.{passing}
-use Rattle.tables.proofs.FromFront.{left, found-here, found-later, found-nothing}
-use Rattle.tables.proofs.searches.scan.Statement.{statement}
-use Rattle.tables.proofs.searches.scan.Tie as tie
+use Rattle.searches.specs.Tests.{passing}
+use Rattle.searches.proofs.FromFront.{left, found-here, found-later, found-nothing}
+use Rattle.searches.proofs.scan.Statement.{statement}
+use Rattle.searches.proofs.scan.Tie as tie
 
 abbrev Inv-loop : tie.InvT-loop
 Inv-loop test xs ys at n b₀ end b = (at ≤ b) × (b ≤ end) × (left (passing test xs ys) end b ≡ left (passing test xs ys) end at)

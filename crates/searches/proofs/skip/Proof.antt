@@ -1,13 +1,13 @@
--- `tables::searches::skip` meets its contract: what is left to skip leads to the same place as the whole.
+-- `searches::skip` meets its contract: what is left to skip leads to the same place as the whole.
 -- Assumes nothing.
 use mathlib.Core.Path.{_≡_, refl}
 use Prim.Native.Nat.{_≤_, _-_}
 use native.Mathlib.Omega.{arith}
 use Rattle.event.proofs.Laws.{equal-by}
-use Rattle.tables.specs.Tests.{passing}
-use Rattle.tables.proofs.Parts.{leftSkip, skip-here, skip-next, skip-end}
-use Rattle.tables.proofs.searches.skip.Statement.{statement}
-use Rattle.tables.proofs.searches.skip.Tie as tie
+use Rattle.searches.specs.Tests.{passing}
+use Rattle.searches.proofs.Parts.{leftSkip, skip-here, skip-next, skip-end}
+use Rattle.searches.proofs.skip.Statement.{statement}
+use Rattle.searches.proofs.skip.Tie as tie
 
 abbrev Inv-loop : tie.InvT-loop
 Inv-loop test xs ys at n end b₀ b = (at ≤ b) × (b ≤ end) × (leftSkip (passing test xs ys) end b ≡ leftSkip (passing test xs ys) end at)

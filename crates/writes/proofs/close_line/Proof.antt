@@ -1,14 +1,14 @@
--- `tables::writes::close_line` meets its contract: after i turns the first i bytes of the line are as after the fence.
+-- `writes::close_line` meets its contract: after i turns the first i bytes of the line are as after the fence.
 -- Assumes nothing.
 use mathlib.Core.Path.{_≡_, refl}
 use Prim.Native.Nat.{_≤_, _-_}
 use native.Mathlib.Omega.{arith}
 use borrow.Author.Needs.{needs}
 use Rattle.tables.specs.Table.{entry, changed}
-use Rattle.tables.specs.Tests.{closedNow}
+use Rattle.writes.specs.Fenced.{closedNow}
 use Rattle.tables.proofs.Table.{changed-turn, changed-done}
-use Rattle.tables.proofs.writes.close_line.Statement.{statement}
-use Rattle.tables.proofs.writes.close_line.Tie as tie
+use Rattle.writes.proofs.close_line.Statement.{statement}
+use Rattle.writes.proofs.close_line.Tie as tie
 
 abbrev Inv-loop : tie.InvT-loop
 Inv-loop closed₀ stored at back epoch i₀ closed i = (i ≤ 64) × (closed ≡ changed (λ b old. closedNow back epoch (entry stored b) old) at i closed₀)

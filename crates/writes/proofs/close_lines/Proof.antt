@@ -1,4 +1,4 @@
--- `tables::writes::close_lines` meets its contract: the bytes of the lines up to i are as after the fence.
+-- `writes::close_lines` meets its contract: the bytes of the lines up to i are as after the fence.
 -- Assumes nothing.
 use mathlib.Core.Path.{_≡_, _∙_}
 use mathlib.Core.Logic.{⊎-elim}
@@ -6,9 +6,9 @@ use Prim.Native.Nat.{_≤_, _-_}
 use native.Mathlib.Nat.{sub-zero}
 use native.Mathlib.Omega.{arith}
 use Rattle.event.proofs.Laws.{equal-by}
-use Rattle.tables.proofs.FenceLines.{fencedLines, lines-none, lines-more, eight-passed}
-use Rattle.tables.proofs.writes.close_lines.Statement.{statement}
-use Rattle.tables.proofs.writes.close_lines.Tie as tie
+use Rattle.writes.proofs.FenceLines.{fencedLines, lines-none, lines-more, eight-passed}
+use Rattle.writes.proofs.close_lines.Statement.{statement}
+use Rattle.writes.proofs.close_lines.Tie as tie
 
 abbrev Inv-loop : tie.InvT-loop
 Inv-loop closed₀ stored backed lines fence epoch end i₀ closed i = (i ≤ end) × (closed ≡ fencedLines fence epoch stored backed 0 i closed₀)

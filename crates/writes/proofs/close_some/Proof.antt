@@ -1,4 +1,4 @@
--- `tables::writes::close_some` meets its contract: the bytes of the lines up to i are as after the fence.
+-- `writes::close_some` meets its contract: the bytes of the lines up to i are as after the fence.
 -- Assumes nothing.
 use mathlib.Core.Path.{_≡_, _∙_}
 use mathlib.Core.Logic.{⊎-elim}
@@ -6,9 +6,9 @@ use Prim.Native.Nat.{_≤_, _<_, _-_, _*_}
 use native.Mathlib.Omega.{arith}
 use borrow.Author.Needs.{needs}
 use borrow.Author.Tests.{lt-ltb}
-use Rattle.tables.proofs.FenceLines.{fencedLines, lines-none, lines-more, line-passed, line-closed}
-use Rattle.tables.proofs.writes.close_some.Statement.{statement}
-use Rattle.tables.proofs.writes.close_some.Tie as tie
+use Rattle.writes.proofs.FenceLines.{fencedLines, lines-none, lines-more, line-passed, line-closed}
+use Rattle.writes.proofs.close_some.Statement.{statement}
+use Rattle.writes.proofs.close_some.Tie as tie
 
 abbrev Inv-loop : tie.InvT-loop
 Inv-loop closed₀ stored backed from to fence epoch i₀ closed i = (from ≤ i) × (i ≤ to) × (closed ≡ fencedLines fence epoch stored backed from i closed₀)

@@ -1,11 +1,11 @@
--- `tables::writes::closed_now` meets its contract: each way out goes by the tests that led there.
+-- `writes::closed_now` meets its contract: each way out goes by the tests that led there.
 -- Assumes nothing.
 use mathlib.Core.Logic.{⊎-elim}
 use native.Mathlib.Omega.{arith}
 use borrow.Author.Needs.{needs}
-use Rattle.tables.proofs.ClosedNow.{closed-before, closes-now, closes-later}
-use Rattle.tables.proofs.writes.closed_now.Statement.{statement}
-use Rattle.tables.proofs.writes.closed_now.Tie as tie
+use Rattle.writes.proofs.ClosedNow.{closed-before, closes-now, closes-later}
+use Rattle.writes.proofs.closed_now.Statement.{statement}
+use Rattle.writes.proofs.closed_now.Tie as tie
 
 wrapping-sub-u16-requires : tie.Need-wrapping-sub-u16-requires
 wrapping-sub-u16-requires c κs = search needs

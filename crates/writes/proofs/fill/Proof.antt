@@ -1,12 +1,12 @@
--- `tables::writes::fill` meets its contract: after i turns the first i entries are filled.
+-- `writes::fill` meets its contract: after i turns the first i entries are filled.
 -- Assumes nothing.
 use mathlib.Core.Path.{_≡_, refl}
 use Prim.Native.Nat.{_≤_, _-_}
 use native.Mathlib.Omega.{arith}
 use Rattle.tables.specs.Table.{changed, filled}
 use Rattle.tables.proofs.Table.{changed-length, changed-turn, changed-done}
-use Rattle.tables.proofs.writes.fill.Statement.{statement}
-use Rattle.tables.proofs.writes.fill.Tie as tie
+use Rattle.writes.proofs.fill.Statement.{statement}
+use Rattle.writes.proofs.fill.Tie as tie
 
 abbrev Inv-loop : tie.InvT-loop
 Inv-loop xs₀ at n x i₀ xs i = (i ≤ n) × (xs ≡ filled x at i xs₀)

@@ -1,10 +1,10 @@
--- `tables::writes::fill_lines` meets its contract: the lines that a range touches are within the table.
+-- `writes::fill_lines` meets its contract: the lines that a range touches are within the table.
 -- Assumes nothing.
 use borrow.Author.Needs.{needs}
 use native.Mathlib.Omega.{arith}
 use Rattle.tables.proofs.Lines.{lines-inside}
-use Rattle.tables.proofs.writes.fill_lines.Statement.{statement}
-use Rattle.tables.proofs.writes.fill_lines.Tie as tie
+use Rattle.writes.proofs.fill_lines.Statement.{statement}
+use Rattle.writes.proofs.fill_lines.Tie as tie
 
 line-of-requires : tie.Need-line-of-requires
 line-of-requires c κs = search needs

@@ -1,12 +1,12 @@
--- `tables::writes::fill_stored` meets its contract: after i turns the first i bytes are filled in each of the three tables.
+-- `writes::fill_stored` meets its contract: after i turns the first i bytes are filled in each of the three tables.
 -- Assumes nothing.
 use mathlib.Core.Path.{_≡_, refl}
 use Prim.Native.Nat.{_≤_, _-_}
 use native.Mathlib.Omega.{arith}
 use Rattle.tables.specs.Table.{changed, filled}
 use Rattle.tables.proofs.Table.{changed-turn, changed-done}
-use Rattle.tables.proofs.writes.fill_stored.Statement.{statement}
-use Rattle.tables.proofs.writes.fill_stored.Tie as tie
+use Rattle.writes.proofs.fill_stored.Statement.{statement}
+use Rattle.writes.proofs.fill_stored.Tie as tie
 
 abbrev Inv-loop : tie.InvT-loop
 Inv-loop stored₀ opened₀ closed₀ number epoch at n i₀ stored opened closed i = (i ≤ n) × (stored ≡ filled number at i stored₀) × (opened ≡ filled epoch at i opened₀) × (closed ≡ filled 0 at i closed₀)

@@ -1,8 +1,8 @@
--- `tables::updates::store` meets its contract: each table is what its call ensures.
+-- `writes::store` meets its contract: each table is what its call ensures.
 -- Assumes nothing.
 use borrow.Author.Needs.{needs}
-use Rattle.tables.proofs.updates.store.Statement.{statement}
-use Rattle.tables.proofs.updates.store.Tie as tie
+use Rattle.writes.proofs.store.Statement.{statement}
+use Rattle.writes.proofs.store.Tie as tie
 
 fill-stored-requires : tie.Need-fill-stored-requires
 fill-stored-requires c κs = search needs
