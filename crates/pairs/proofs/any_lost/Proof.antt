@@ -21,26 +21,11 @@ loop-holds : tie.Need-loop-holds Inv-loop μ-loop
 unfolding lowest
 loop-holds c = (omega arith, refl)
 
-add-b : tie.Need-add-b Inv-loop μ-loop
-add-b c = omega arith
+add-may-lose : tie.Need-add-may-lose Inv-loop μ-loop
+add-may-lose c = omega arith
 
-mul-is-broken : tie.Need-mul-is-broken Inv-loop μ-loop
-mul-is-broken c = omega arith
-
-element-copy-out-is-broken : tie.Need-element-copy-out-is-broken Inv-loop μ-loop
-element-copy-out-is-broken c = omega arith
-
-cast-is-broken : tie.Need-cast-is-broken Inv-loop μ-loop
-cast-is-broken c = omega arith
-
-mul-is-broken-2 : tie.Need-mul-is-broken-2 Inv-loop μ-loop
-mul-is-broken-2 c = omega arith
-
-element-copy-out-is-broken-2 : tie.Need-element-copy-out-is-broken-2 Inv-loop μ-loop
-element-copy-out-is-broken-2 c = omega arith
-
-is-broken-requires : tie.Need-is-broken-requires Inv-loop μ-loop
-is-broken-requires c κs = search needs
+may-lose-requires : tie.Need-may-lose-requires Inv-loop μ-loop
+may-lose-requires c κs = omega arith
 
 add-i : tie.Need-add-i Inv-loop μ-loop
 add-i c = omega arith
@@ -49,7 +34,7 @@ loop-less : tie.Need-loop-less Inv-loop μ-loop
 loop-less c = omega arith
 
 loop-again : tie.Need-loop-again Inv-loop μ-loop
-loop-again c = (omega arith, found-more _ _ _ (c .before .before .before .before .loop .inv .1) (c .is-broken .ensures))
+loop-again c = (omega arith, found-more _ _ _ (c .before .before .loop .inv .1) (c .may-lose .ensures))
 
 returns : tie.Need-returns Inv-loop μ-loop
 returns c = let same : c .before .loop .i ≡ c .before .before .args .n = omega arith in rw same at (c .before .loop .inv .1)
@@ -61,13 +46,8 @@ any-lost-spec =
     Inv-loop
     μ-loop
     loop-holds
-    add-b
-    mul-is-broken
-    element-copy-out-is-broken
-    cast-is-broken
-    mul-is-broken-2
-    element-copy-out-is-broken-2
-    is-broken-requires
+    add-may-lose
+    may-lose-requires
     add-i
     loop-less
     loop-again
