@@ -1,11 +1,11 @@
 -- What a fence does to the bytes of the lines from one up to another.
 use mathlib.Core.Path.{_≡_, sym, _∙_}
-use mathlib.Core.Bool.{false}
+use mathlib.Core.Bool.{false, _&&_}
 use mathlib.Core.List.{List}
 use Prim.Native.Nat.{ℕ, _+_, _-_, _*_, _≤_, _<_}
 use native.Mathlib.Omega.{arith}
-use borrow.Author.Tests.{lt-ltb, le-ltb}
-use lib.Dec.{ltb}
+use borrow.Author.Tests.{le-leb, lt-ltb, le-ltb}
+use lib.Dec.{leb, ltb}
 use Rattle.event.specs.Window.{windowBytes, lineOf, lineStart}
 use Rattle.history.specs.Found.{lowest}
 use Rattle.searches.specs.declared.Test.the-variants.{Since}
@@ -46,8 +46,10 @@ module _ (fence epoch : ℕ) (stored backed : List ℕ) where
       sym (lines-kept l (l + 1) xs (λ k a b. let same : k ≡ l = omega arith in rw (same, le-ltb fence (entry backed l) h)))
 
   -- eight such lines
-  pub eight-passed : (l : ℕ) (xs : List ℕ) → isFound (lowest (passing (Since fence) backed backed) l 8) ≡ false → xs ≡ fencedLines l (l + 8) xs
-  eight-passed l xs e = sym (lines-kept l (l + 8) xs (none-there (passing (Since fence) backed backed) l 8 e))
+  pub eight-passed : (l : ℕ) (xs : List ℕ) → l ≤ 56 → leb l 56 && isFound (lowest (passing (Since fence) backed backed) l 8) ≡ false →
+      xs ≡ fencedLines l (l + 8) xs
+  eight-passed l xs h e =
+      sym (lines-kept l (l + 8) xs (none-there (passing (Since fence) backed backed) l 8 (rw (le-leb l 56 h) at e)))
 
   -- of a line written back since, the open bytes last stored to before the write-back close
   pub line-closed : {ys : List ℕ} {at : ℕ} (l : ℕ) (xs : List ℕ) → fence < entry backed l → l < 64 → at ≡ lineStart l →

@@ -1,10 +1,15 @@
--- `writes::fill_lines` meets its contract: the lines that a range touches are within the table.
+-- `writes::fill_lines` meets its contract: the lines of the part are within the table.
 -- Assumes nothing.
-use borrow.Author.Needs.{needs}
+use Prim.Native.Nat.{_+_, _≤_}
 use native.Mathlib.Omega.{arith}
-use Rattle.tables.proofs.Lines.{lines-inside}
+use borrow.Author.Needs.{needs}
+use Rattle.event.specs.Window.{lineOf, lineCount}
+use Rattle.tables.proofs.InTables.{in-tables-lines}
 use Rattle.writes.proofs.fill_lines.Statement.{statement}
 use Rattle.writes.proofs.fill_lines.Tie as tie
+
+in-tables-requires : tie.Need-in-tables-requires
+in-tables-requires c κs = search needs
 
 line-of-requires : tie.Need-line-of-requires
 line-of-requires c κs = search needs
@@ -19,11 +24,26 @@ cast-n : tie.Need-cast-n
 cast-n c = search needs
 
 fill-requires : tie.Need-fill-requires
-fill-requires c κs = let inside = lines-inside (c .before .before .before .args .a) (c .before .before .before .pre) in omega (arith, c .before .before .line-of .ensures, c .before .line-count .ensures)
+fill-requires c κs =
+    let n = c .before in
+    let p = n .before .before in
+    let inside : lineOf (p .in-tables .result .address) + lineCount (p .in-tables .result) ≤ 64 =
+    rw (p .in-tables .ensures) (in-tables-lines (p .before .args .a)) in
+    omega (arith, n .before .line-of .ensures, n .line-count .ensures)
 
 returns : tie.Need-returns
-returns c = simp (c .before .before .before .line-of .ensures, c .before .before .line-count .ensures) at (c .fill .ensures)
+returns c =
+    let n = c .before .before in
+    rw (n .before .line-of .ensures, n .line-count .ensures, n .before .before .in-tables .ensures) at (c .fill .ensures)
 
 pub fill-lines-spec : {M : Type 1} → statement M
 fill-lines-spec =
-    tie.close (tie.spec line-of-requires cast-at line-count-requires cast-n fill-requires returns)
+    tie.close
+    (tie.spec
+    in-tables-requires
+    line-of-requires
+    cast-at
+    line-count-requires
+    cast-n
+    fill-requires
+    returns)
