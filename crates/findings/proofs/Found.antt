@@ -1,6 +1,6 @@
--- The tests that the code makes on the tables are those that a judge makes of the run.
+-- The findings that the code makes from the tables are those that a judge makes of the run.
 use mathlib.Core.Path.{_≡_, refl, sym, fun-ext}
-use mathlib.Core.Bool.{Bool, true, false, cond, not, _&&_, _||_, or-false}
+use mathlib.Core.Bool.{Bool, true, false, cond, not, _&&_, _||_}
 use mathlib.Core.Logic.{_≢_}
 use mathlib.Core.List.{List, []}
 use mathlib.Core.Option.{Option, none, some}
@@ -15,13 +15,13 @@ use Rattle.event.specs.Window.{lineOf, lineCount}
 use Rattle.history.specs.Found.{Pair, lowest, lowestIn, lowestPair, foundOr, unlogged, clean, writtenTwice, warnedLine, isOpen, atRisk, openedAt, closedBy, breaks, inOrder, findingBy}
 use Rattle.tables.specs.declared.Counts.{Counts}
 use Rattle.tables.specs.declared.Run.{Run}
-use Rattle.tables.specs.Table.{entry, changed}
+use Rattle.tables.specs.Table.{entry}
 use Rattle.tables.specs.View.{runOf, noCounts, intervalFrom, ofRun}
 use Rattle.searches.specs.declared.Test.the-variants.{NotSince, OpenSince, Wasted}
-use Rattle.tables.specs.Tests.{passesBy, passing, brokenPair, isBroken, durableFrom, lostAtEnd, endedFrom, fenced}
-use Rattle.events.specs.Next.{closes}
-use Rattle.tables.proofs.Table.{changed-same}
+use Rattle.searches.specs.Tests.{passesBy, passing, lostAtEnd}
 use Rattle.searches.proofs.Searched.{lowest-none}
+use Rattle.pairs.specs.Pairs.{isBroken, brokenPair}
+use Rattle.findings.specs.Findings.{durableAt, endedAt}
 
 -- an interval is open after a store that no fence has closed
 open-test : (s o k : ℕ) → isOpen (intervalFrom s o k) ≡ passesBy (OpenSince 0) s k
@@ -37,19 +37,6 @@ open-or-later s o (suc k) e = rw (ne-eqb (suc k) 0 (λ z. absurd (omega arith)))
     go : (t : Bool) → leb (suc k) e ≡ t → not t ≡ ltb e (suc k)
     go true h = sym (le-ltb e (suc k) (leb-true (suc k) e h))
     go false h = sym (lt-ltb e (suc k) (leb-false (suc k) e h))
-
--- the test of a pair, with no branch: a later store is a store
-pub no-branch : (ks ls : ℕ) (one : Bool) (opened closed : ℕ) →
-    not (eqb ks 0) && (one && ltb ks ls || not one && (not (eqb ls 0) && (eqb closed 0 || ltb opened closed))) ≡ isBroken ks ls one opened closed
-no-branch zero ls one opened closed = refl
-no-branch (suc ks) ls false opened closed = rw (ne-eqb (suc ks) 0 (λ z. absurd (omega arith)))
-no-branch (suc ks) zero true opened closed = rw (ne-eqb (suc ks) 0 (λ z. absurd (omega arith)), le-ltb (suc ks) 0 (omega arith))
-no-branch (suc ks) (suc ls) true opened closed =
-    rw (ne-eqb (suc ks) 0 (λ z. absurd (omega arith)), ne-eqb (suc ls) 0 (λ z. absurd (omega arith))) (or-false (ltb (suc ks) (suc ls)))
-
--- no pair breaks whose kept byte was never stored to
-pub never-broken : (stored opened closed : List ℕ) (kept : ℕ) → entry stored kept ≡ 0 → (lost : ℕ) → brokenPair stored opened closed kept lost ≡ false
-never-broken stored opened closed kept e lost = rw (eq-eqb (entry stored kept) 0 e)
 
 -- the epoch at which an interval opened
 opened-at : (s o k : ℕ) → openedAt (intervalFrom (suc s) o k) ≡ o
@@ -95,19 +82,20 @@ module _ (run : Run) where
       wasted false t = refl
 
   -- a byte is at risk after a store that no fence has closed
-  at-risk : (b : ℕ) → atRisk (ofRun run) b ≡ passing (OpenSince 0) (run .stored) (run .closed) b
+  pub at-risk : (b : ℕ) → atRisk (ofRun run) b ≡ passing (OpenSince 0) (run .stored) (run .closed) b
   at-risk b = open-test (entry (run .stored) b) (entry (run .opened) b) (entry (run .closed) b)
 
   -- a persisted goes by its bytes' last stores and closing epochs
   pub persisted-found : (a : Range) →
-      findingBy (ofRun run) (Persisted a) ≡ durableFrom (run .counts) (run .stored) (run .closed) 0 (a .address) (a .length)
+      findingBy (ofRun run) (Persisted a) ≡
+      durableAt (suc (run .counts .events)) (run .stored) (lowestIn (passing (OpenSince 0) (run .stored) (run .closed)) a)
   unfolding findingBy
   persisted-found a =
       let same : atRisk (ofRun run) ≡ passing (OpenSince 0) (run .stored) (run .closed) = fun-ext at-risk in
       rw same
 
   -- an end likewise, over the bytes stored to since the begin
-  pub end-found : findingBy (ofRun run) End ≡ endedFrom (run .counts) (run .stored) (run .closed) (run .written)
+  pub end-found : findingBy (ofRun run) End ≡ endedAt (suc (run .counts .events)) (run .counts) (run .stored) (run .closed) (run .written)
   unfolding findingBy
   end-found =
       let same : (λ b. ofRun run .storedSince b && atRisk (ofRun run) b) ≡ lostAtEnd (run .counts .begin) (run .stored) (run .closed) (run .written) =
@@ -136,33 +124,6 @@ module _ (run : Run) where
       broken-test (entry (run .stored) kept) (entry (run .opened) kept) (entry (run .closed) kept)
       (entry (run .stored) lost) (entry (run .opened) lost) (entry (run .closed) lost) (eqb (lineOf kept) (lineOf lost)))) in
       rw same
-
-  -- a fence closes the same bytes
-  pub fence-closed : (epoch n : ℕ) →
-      changed (fenced (run .counts .fence) epoch (run .stored) (run .backed)) 0 n (run .closed) ≡
-      changed (λ b old. cond (closes run b) epoch old) 0 n (run .closed)
-  fence-closed epoch n =
-      changed-same (fenced (run .counts .fence) epoch (run .stored) (run .backed)) (λ b old. cond (closes run b) epoch old) 0 n (run .closed)
-      (λ b h k.
-      rw (at-risk b)
-      (closes-test (entry (run .stored) b) (ltb (entry (run .stored) b) (entry (run .backed) (lineOf b)))
-      (ltb (run .counts .fence) (entry (run .backed) (lineOf b))) (eqb (entry (run .closed) b) 0) epoch (entry (run .closed) b)))
-    where
-      closes-test : (s : ℕ) (since fresh still : Bool) (epoch old : ℕ) →
-          cond fresh (cond (not (eqb s 0) && still && since) epoch old) old ≡ cond (ltb 0 s && still && since && fresh) epoch old
-      closes-test zero since fresh still epoch old = go fresh
-        where
-          go : (t : Bool) → cond t old old ≡ old
-          go true = refl
-          go false = refl
-      closes-test (suc s) since fresh still epoch old =
-          rw (ne-eqb (suc s) 0 (λ z. absurd (omega arith)), lt-ltb 0 (suc s) (omega arith)) (go (still && since) fresh)
-        where
-          go : (closing fresh : Bool) → cond fresh (cond closing epoch old) old ≡ cond (closing && fresh) epoch old
-          go true true = refl
-          go true false = refl
-          go false true = refl
-          go false false = refl
 
   -- an ordered asks for no other tables
   pub ordered-tables : (a b : Range) →

@@ -63,7 +63,7 @@ pub fn of_log(counts: Counts, logged: &[u16; 4096], a: Range) -> Finding
 
 // Holds where a search found nothing, and lost at the byte that it found, by the event with this number.
 fn lost_at(number: u16, stored: &[u16; 4096], s: Search) -> Finding
-    requires { ⌜ (b : ℕ) → foundBy s ≡ some b → b < 4096 ⌝ }
+    requires { ⌜ ((b : ℕ) → foundBy s ≡ some b → b < 4096) ⌝ }
     ensures { λ r. ⌜ r ≡ durableAt number (now (stored .entry)) (foundBy s) ⌝ }
 {
     match s {
@@ -80,12 +80,7 @@ fn lost_at(number: u16, stored: &[u16; 4096], s: Search) -> Finding
 }
 
 // A persisted with this number: holds or lost.
-pub fn of_persisted(
-    number: u16,
-    stored: &[u16; 4096],
-    closed: &[u16; 4096],
-    a: Range,
-) -> Finding
+pub fn of_persisted(number: u16, stored: &[u16; 4096], closed: &[u16; 4096], a: Range) -> Finding
     ensures { λ r. ⌜
         r ≡
         durableAt number (now (stored .entry))

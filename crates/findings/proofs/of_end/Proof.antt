@@ -14,20 +14,14 @@ returns c = simp (ne-eqb _ 1 (c .if1 .taken))
 returns-2 : tie.Need-returns-2
 returns-2 c = simp (eq-eqb _ 1 (c .before .before .if1 .left), le-ltb _ _ (c .if2 .taken))
 
-lines-of-requires : tie.Need-lines-of-requires
-lines-of-requires c κs = search needs
-
-cast-lines : tie.Need-cast-lines
-cast-lines c = search needs
-
 first-since-begin-requires : tie.Need-first-since-begin-requires
 first-since-begin-requires c κs = search needs
 
 lost-at-requires : tie.Need-lost-at-requires
-lost-at-requires c κs = (search needs, λ b h. omega (arith, lowest-below _ _ _ (sym (found-by _ (c .first-since-begin .ensures)) ∙ h), c .before .lines-of .ensures))
+lost-at-requires c κs = λ b h. omega (arith, lowest-below _ _ _ (sym (found-by _ (c .first-since-begin .ensures)) ∙ h))
 
 returns-3 : tie.Need-returns-3
-returns-3 c = let f = c .before in let l = f .before in let t = l .before in rw (eq-eqb _ 1 (t .before .before .if1 .left), lt-ltb _ _ (t .if2 .left)) (rw (found-by _ (f .first-since-begin .ensures), l .lines-of .ensures) at (c .lost-at .ensures))
+returns-3 c = let f = c .before in let t = f .before in rw (eq-eqb _ 1 (t .before .before .if1 .left), lt-ltb _ _ (t .if2 .left)) (rw (found-by _ (f .first-since-begin .ensures)) at (c .lost-at .ensures))
 
 pub of-end-spec : {M : Type 1} → statement M
 of-end-spec =
@@ -35,8 +29,6 @@ of-end-spec =
     (tie.spec
     returns
     returns-2
-    lines-of-requires
-    cast-lines
     first-since-begin-requires
     lost-at-requires
     returns-3)

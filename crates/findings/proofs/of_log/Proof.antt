@@ -6,14 +6,8 @@ use Rattle.searches.proofs.Searched.{found-none, found-some}
 use Rattle.findings.proofs.of_log.Statement.{statement}
 use Rattle.findings.proofs.of_log.Tie as tie
 
-cast-at : tie.Need-cast-at
-cast-at c = search needs
-
-cast-n : tie.Need-cast-n
-cast-n c = search needs
-
-first-requires : tie.Need-first-requires
-first-requires c κs = search needs
+first-byte-requires : tie.Need-first-byte-requires
+first-byte-requires c κs = search needs
 
 enum-told : tie.Need-enum-told
 enum-told c = search needs
@@ -23,12 +17,12 @@ enum-known-b c = search needs
 
 returns : tie.Need-returns
 unfolding findingBy
-returns c = rw (found-none _ (c .enum-told .given .1) (c .before .before .first .ensures))
+returns c = rw (found-none _ (c .enum-told .given .1) (c .before .before .first-byte .ensures))
 
 returns-2 : tie.Need-returns-2
 unfolding findingBy
-returns-2 c = rw (found-some _ (c .before .b .given .1) (c .before .before .before .first .ensures))
+returns-2 c = rw (found-some _ (c .before .b .given .1) (c .before .before .before .first-byte .ensures))
 
 pub of-log-spec : {M : Type 1} → statement M
 of-log-spec =
-    tie.close (tie.spec cast-at cast-n first-requires enum-told enum-known-b returns returns-2)
+    tie.close (tie.spec first-byte-requires enum-told enum-known-b returns returns-2)

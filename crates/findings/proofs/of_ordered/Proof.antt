@@ -3,9 +3,10 @@
 use mathlib.Core.List.{[]}
 use native.Mathlib.Omega.{arith}
 use borrow.Author.Needs.{needs}
+use Rattle.tables.specs.Table.{inTables}
 use Rattle.tables.specs.View.{runOf, noCounts}
-use Rattle.tables.proofs.Tests.{ordered-found}
-use Rattle.searches.proofs.Searched.{found-no-pair, found-pair, pair-below}
+use Rattle.findings.proofs.Found.{ordered-found}
+use Rattle.pairs.proofs.Searched.{found-no-pair, found-pair, pair-below}
 use Rattle.findings.proofs.of_ordered.Statement.{statement}
 use Rattle.findings.proofs.of_ordered.Tie as tie
 
@@ -37,10 +38,10 @@ element-copy-out-t19 : tie.Need-element-copy-out-t19
 element-copy-out-t19 c = let s = c .before .before in omega (arith, pair-below _ _ _ _ (found-pair _ (s .kept .given .1) (s .before .before .first-pair .ensures)) .1)
 
 returns : tie.Need-returns
-returns c = let w = c .before .before in let k = w .before .args in rw (ordered-found (runOf (noCounts 0) (k .stored .now) [] (k .opened .now) (k .closed .now) [] []) (k .a) (k .b), found-no-pair _ (c .enum-told .given .1) (w .first-pair .ensures))
+returns c = let w = c .before .before in let k = w .before .args in rw (ordered-found (runOf (noCounts 0) (k .stored .now) [] (k .opened .now) (k .closed .now) [] []) (inTables (k .a)) (inTables (k .b)), found-no-pair _ (c .enum-told .given .1) (w .first-pair .ensures))
 
 returns-2 : tie.Need-returns-2
-returns-2 c = let s = c .before .before .before in let w = s .before .before in let k = w .before .args in rw (ordered-found (runOf (noCounts 0) (k .stored .now) [] (k .opened .now) (k .closed .now) [] []) (k .a) (k .b), found-pair _ (s .kept .given .1) (w .first-pair .ensures))
+returns-2 c = let s = c .before .before .before in let w = s .before .before in let k = w .before .args in rw (ordered-found (runOf (noCounts 0) (k .stored .now) [] (k .opened .now) (k .closed .now) [] []) (inTables (k .a)) (inTables (k .b)), found-pair _ (s .kept .given .1) (w .first-pair .ensures))
 
 pub of-ordered-spec : {M : Type 1} → statement M
 of-ordered-spec =

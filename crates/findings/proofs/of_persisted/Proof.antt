@@ -7,20 +7,14 @@ use Rattle.searches.proofs.Searched.{found-by, lowest-below}
 use Rattle.findings.proofs.of_persisted.Statement.{statement}
 use Rattle.findings.proofs.of_persisted.Tie as tie
 
-cast-at : tie.Need-cast-at
-cast-at c = search needs
-
-cast-n : tie.Need-cast-n
-cast-n c = search needs
-
 first-open-requires : tie.Need-first-open-requires
 first-open-requires c κs = search needs
 
 lost-at-requires : tie.Need-lost-at-requires
-lost-at-requires c κs = (search needs, λ b h. omega (arith, lowest-below _ _ _ (sym (found-by _ (c .first-open .ensures)) ∙ h)))
+lost-at-requires c κs = λ b h. omega (arith, lowest-below _ _ _ (sym (found-by _ (c .first-open .ensures)) ∙ h))
 
 returns : tie.Need-returns
 returns c = rw (found-by _ (c .before .first-open .ensures)) at (c .lost-at .ensures)
 
 pub of-persisted-spec : {M : Type 1} → statement M
-of-persisted-spec = tie.close (tie.spec cast-at cast-n first-open-requires lost-at-requires returns)
+of-persisted-spec = tie.close (tie.spec first-open-requires lost-at-requires returns)
