@@ -13,16 +13,20 @@ use Rattle.event.specs.declared.Check.the-variants.{Passed, Refused as Breaks}
 use Rattle.event.specs.declared.Answer.the-variants.{Refused}
 use Rattle.event.specs.Window.{windowBytes}
 use Rattle.history.specs.Refused.{refusalBy}
-use Rattle.history.specs.Found.{findingBy}
+use Rattle.history.specs.Found.{lowestIn, findingBy}
 use Rattle.tables.specs.declared.Run.{Run}
 use Rattle.events.specs.declared.Given.{Given}
 use Rattle.events.specs.declared.Stepped.{Stepped}
 use Rattle.tables.specs.Table.{changed, filledBytes, filledLines}
 use Rattle.tables.specs.View.{runOf, noCounts, linesOf, limitsOf, ofRun}
-use Rattle.tables.specs.Tests.{durableFrom, endedFrom, fenced}
+use Rattle.searches.specs.declared.Test.the-variants.{OpenSince}
+use Rattle.searches.specs.Tests.{passing}
+use Rattle.writes.specs.Fenced.{fenced}
+use Rattle.findings.specs.Findings.{durableAt, endedAt}
+use Rattle.findings.proofs.Found.{persisted-found, end-found, ordered-tables}
 use Rattle.events.specs.Next.{numberOf, oneMore, tablesAfter}
 use Rattle.events.specs.Give.{outcomeOf, steppedFor, givenFor, giveOf}
-use Rattle.tables.proofs.Tests.{persisted-found, end-found, ordered-tables, fence-closed}
+use Rattle.events.proofs.FenceClosed.{fence-closed}
 
 module _ (run : Run) (r : Record) where
   -- the limits ask for the numbers alone
@@ -78,12 +82,14 @@ module _ (run : Run) {s : Stepped} {e : Event} where
   unfolding findingBy tablesAfter
   log-taken told stepped i = rw (told, stepped, i)
 
-  pub end-taken : e ≡ End → s ≡ steppedFor (run .counts) End (endedFrom (run .counts) (run .stored) (run .closed) (run .written)) → unchanged run s ≡ givenFor Passed run e
+  pub end-taken : e ≡ End → s ≡ steppedFor (run .counts) End (endedAt (numberOf (run .counts)) (run .counts) (run .stored) (run .closed) (run .written)) → unchanged run s ≡ givenFor Passed run e
   unfolding tablesAfter
   end-taken told stepped = rw (told, stepped, end-found run)
 
   pub persisted-taken : {a : Range} → e ≡ Persisted a →
-      s ≡ steppedFor (run .counts) (Persisted a) (durableFrom (run .counts) (run .stored) (run .closed) 0 (a .address) (a .length)) →
+      s ≡
+      steppedFor (run .counts) (Persisted a)
+      (durableAt (numberOf (run .counts)) (run .stored) (lowestIn (passing (OpenSince 0) (run .stored) (run .closed)) a)) →
       unchanged run s ≡ givenFor Passed run e
   unfolding tablesAfter
   persisted-taken told stepped = rw (told, stepped, persisted-found run)

@@ -6,6 +6,7 @@ use event::Finding;
 use event::Range;
 use event::Record;
 use event::numbers;
+use searches::Test;
 use std::num;
 use tables::Counts;
 use tables::Run;
@@ -199,7 +200,7 @@ fn persisted(counts: Counts, stored: &[u16; 4096], closed: &[u16; 4096], a: Rang
         s ≡
         steppedFor counts (Event.Persisted a)
         (durableAt (numberOf counts) (now (stored .entry))
-        (lowestIn (passing (Rattle.searches.specs.declared.Test.the-variants.OpenSince 0) (now (stored .entry)) (now (closed .entry))) a))
+        (lowestIn (passing (Test.OpenSince 0) (now (stored .entry)) (now (closed .entry))) a))
         ⌝ }
 {
     let finding = findings::of_persisted(counts.events + 1, stored, closed, a);

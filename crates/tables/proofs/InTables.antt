@@ -26,8 +26,12 @@ in-tables-lines a = go (isEmpty (inTables a)) refl
         omega arith
 
 -- a range within them is all there
-pub in-tables : (a : Range) → rangeEnd a ≤ 4096 → inTables a ≡ a
-in-tables a h =
-    let address : min (a .address) 4096 ≡ a .address = omega arith in
-    let length : min (a .length) (4096 - a .address) ≡ a .length = omega arith in
-    rw (address, length)
+module _ (a : Range) (h : rangeEnd a ≤ 4096) where
+  pub in-tables-address : min (a .address) 4096 ≡ a .address
+  in-tables-address = omega arith
+
+  pub in-tables-length : min (a .length) (4096 - a .address) ≡ a .length
+  in-tables-length = omega arith
+
+  pub in-tables : inTables a ≡ a
+  in-tables = rw (in-tables-address, in-tables-length)

@@ -10,9 +10,6 @@ use Rattle.events.proofs.fence.Tie as tie
 wrapping-add-u16-requires : tie.Need-wrapping-add-u16-requires
 wrapping-add-u16-requires c κs = search needs
 
-lines-of-requires : tie.Need-lines-of-requires
-lines-of-requires c κs = search needs
-
 close-lines-requires : tie.Need-close-lines-requires
 close-lines-requires c κs = search needs
 
@@ -21,14 +18,16 @@ counted-requires c κs = search needs
 
 returns : tie.Need-returns
 unfolding countsAfter
-returns c = let l = c .before .before in let w = l .before .before in let epoch : w .wrapping-add-u16 .result ≡ oneMore (w .before .args .counts .fences) = w .wrapping-add-u16 .ensures ∙ rw add-one in (rw (c .counted .ensures, epoch), rw (l .lines-of .ensures, epoch) at (c .before .close-lines .ensures))
+returns c =
+    let w = c .before .before .before in
+    let epoch : w .wrapping-add-u16 .result ≡ oneMore (w .before .args .counts .fences) = w .wrapping-add-u16 .ensures ∙ rw add-one in
+    (rw (c .counted .ensures, epoch), rw epoch at (c .before .close-lines .ensures))
 
 pub fence-spec : {M : Type 1} → statement M
 fence-spec =
     tie.close
     (tie.spec
     wrapping-add-u16-requires
-    lines-of-requires
     close-lines-requires
     counted-requires
     returns)
