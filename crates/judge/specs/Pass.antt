@@ -12,7 +12,7 @@ use Rattle.event.specs.declared.Parsed.{Parsed}
 use Rattle.event.specs.declared.Parsed.the-variants.{Record, Refused as Unread}
 use Rattle.codec.specs.Codec.{findingBytes, findingSize}
 use Rattle.tables.specs.declared.Run.{Run}
-use Rattle.tables.specs.Give.{giveOf}
+use Rattle.events.specs.Give.{giveOf}
 use Rattle.trace.specs.declared.TraceCheck.{TraceCheck}
 use Rattle.trace.specs.declared.TraceCheck.the-variants.{Passed, Refused as RefusedAt}
 use Rattle.judge.specs.declared.Verdict.{Verdict}

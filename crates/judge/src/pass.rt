@@ -2,8 +2,8 @@
 use event::Answer;
 use event::Parsed;
 use event::Refusal;
+use events::Stepped;
 use tables::Counts;
-use tables::Stepped;
 use trace::TraceCheck;
 use trace::records;
 ghost use mathlib.Core.Path.{_≡_};
@@ -75,7 +75,7 @@ fn judge_record(
             counts,
         },
         Parsed::Record(r) => {
-            let s = tables::step(counts, stored, logged, opened, closed, written, backed, r);
+            let s = events::step(counts, stored, logged, opened, closed, written, backed, r);
             let answer = s.answer;
             match answer {
                 Answer::Refused(_) => {}
