@@ -1,7 +1,7 @@
 -- The part of a range that the tables have.
 use mathlib.Core.Path.{_≡_, refl}
 use mathlib.Core.Bool.{Bool, true, false}
-use Prim.Native.Nat.{_+_, _-_, _/_, _≤_, min}
+use Prim.Native.Nat.{ℕ, _+_, _-_, _/_, _≤_, min}
 use native.Mathlib.Omega.{arith}
 use borrow.Author.Tests.{eqb-false}
 use Rattle.event.specs.declared.Range.{Range}
@@ -24,6 +24,10 @@ in-tables-lines a = go (isEmpty (inTables a)) refl
         let some : inTables a .length ≡ 0 → ⊥ = eqb-false (inTables a .length) 0 e in
         let all : lineCount (inTables a) ≡ (rangeEnd (inTables a) - 1) / 64 + 1 - inTables a .address / 64 = rw e in
         omega arith
+
+-- as they are computed, one after another
+pub part-lines : (a : Range) {part : Range} {at n : ℕ} → part ≡ inTables a → at ≡ lineOf (part .address) → n ≡ lineCount part → at + n ≤ 64
+part-lines a p l c = rw (l, c, p) (in-tables-lines a)
 
 -- a range within them is all there
 module _ (a : Range) (h : rangeEnd a ≤ 4096) where

@@ -3,7 +3,6 @@
 use mathlib.Core.Path.{_≡_, refl}
 use Prim.Native.Nat.{_≤_, _-_}
 use native.Mathlib.Omega.{arith}
-use borrow.Author.Needs.{needs}
 use Rattle.history.specs.Found.{lowest}
 use Rattle.searches.specs.Tests.{isFound}
 use Rattle.searches.proofs.Parts.{found-more}

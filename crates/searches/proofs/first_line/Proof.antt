@@ -1,10 +1,8 @@
 -- `searches::first_line` meets its contract: the lines of the part are within the tables.
 -- Assumes nothing.
 use native.Mathlib.Omega.{arith}
-use Prim.Native.Nat.{_+_, _≤_}
 use borrow.Author.Needs.{needs}
-use Rattle.event.specs.Window.{lineOf, lineCount}
-use Rattle.tables.proofs.InTables.{in-tables-lines}
+use Rattle.tables.proofs.InTables.{part-lines}
 use Rattle.searches.proofs.first_line.Statement.{statement}
 use Rattle.searches.proofs.first_line.Tie as tie
 
@@ -26,10 +24,7 @@ cast-n c = search needs
 scan-requires : tie.Need-scan-requires
 scan-requires c κs =
     let n = c .before .before in
-    let p = n .before .before in
-    let inside : lineOf (p .in-tables .result .address) + lineCount (p .in-tables .result) ≤ 64 =
-    rw (p .in-tables .ensures) (in-tables-lines (p .before .args .a)) in
-    omega (arith, n .before .line-of .ensures, n .line-count .ensures)
+    omega (arith, part-lines _ (n .before .before .in-tables .ensures) (n .before .line-of .ensures) (n .line-count .ensures))
 
 returns : tie.Need-returns
 returns c =

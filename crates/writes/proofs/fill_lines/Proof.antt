@@ -1,10 +1,8 @@
 -- `writes::fill_lines` meets its contract: the lines of the part are within the table.
 -- Assumes nothing.
-use Prim.Native.Nat.{_+_, _≤_}
 use native.Mathlib.Omega.{arith}
 use borrow.Author.Needs.{needs}
-use Rattle.event.specs.Window.{lineOf, lineCount}
-use Rattle.tables.proofs.InTables.{in-tables-lines}
+use Rattle.tables.proofs.InTables.{part-lines}
 use Rattle.writes.proofs.fill_lines.Statement.{statement}
 use Rattle.writes.proofs.fill_lines.Tie as tie
 
@@ -26,10 +24,7 @@ cast-n c = search needs
 fill-requires : tie.Need-fill-requires
 fill-requires c κs =
     let n = c .before in
-    let p = n .before .before in
-    let inside : lineOf (p .in-tables .result .address) + lineCount (p .in-tables .result) ≤ 64 =
-    rw (p .in-tables .ensures) (in-tables-lines (p .before .args .a)) in
-    omega (arith, n .before .line-of .ensures, n .line-count .ensures)
+    omega (arith, part-lines _ (n .before .before .in-tables .ensures) (n .before .line-of .ensures) (n .line-count .ensures))
 
 returns : tie.Need-returns
 returns c =
