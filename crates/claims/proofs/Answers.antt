@@ -28,7 +28,7 @@ use Rattle.history.proofs.Claim.{Inside}
 use Rattle.history.proofs.Given.{Checked, checked, answer-refused, answer-found}
 use Rattle.history.proofs.Meaning.Accepted.{Taken, accepted-taken}
 use Rattle.tables.specs.View.{ofRun}
-use Rattle.tables.specs.Give.{giveOf}
+use Rattle.events.specs.Give.{giveOf}
 use Rattle.engine.specs.declared.Closing.the-variants.{Totals}
 use Rattle.engine.specs.Call.{closeOf}
 use Rattle.engine.specs.Tracks.{Tracks}

@@ -21,8 +21,8 @@ use Rattle.history.specs.Given.{windowOf, RefusedBy, Accepted}
 use Rattle.history.proofs.Claim.{finding-claim}
 use Rattle.history.proofs.Given.{whole-claim, one-run}
 use Rattle.history.proofs.Exactly.{persisted-holds, ordered-holds, end-holds}
-use Rattle.tables.specs.declared.Given.{Given}
-use Rattle.tables.specs.Give.{giveOf}
+use Rattle.events.specs.declared.Given.{Given}
+use Rattle.events.specs.Give.{giveOf}
 use Rattle.tables.specs.View.{ofRun}
 use Rattle.engine.specs.declared.Asked.the-variants.{Refused as AskRefused, Known}
 use Rattle.engine.specs.declared.Closing.the-variants.{Refused as CloseRefused}

@@ -26,7 +26,7 @@ use Rattle.history.specs.View.{ofHistory}
 use Rattle.history.specs.Refused.{NoneBroken}
 use Rattle.history.specs.Found.{findingBy}
 use Rattle.history.specs.Given.{windowFor, windowOf, Accepted, accepted, answers, reported}
-use Rattle.tables.specs.Give.{giveOf}
+use Rattle.events.specs.Give.{giveOf}
 use Rattle.engine.specs.declared.Closing.the-variants.{Totals}
 use Rattle.engine.specs.Call.{closeOf}
 use Rattle.trace.specs.declared.TraceCheck.the-variants.{Passed as AllPass}

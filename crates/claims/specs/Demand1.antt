@@ -16,7 +16,7 @@ use Rattle.history.specs.History.{History}
 use Rattle.history.specs.Transaction.{depth}
 use Rattle.history.specs.Refused.{Limit, First, NoneBroken}
 use Rattle.history.specs.Given.{windowOf, RefusedBy, Accepted}
-use Rattle.tables.specs.Give.{giveOf}
+use Rattle.events.specs.Give.{giveOf}
 use Rattle.engine.specs.declared.Asked.the-variants.{Refused as AskRefused}
 use Rattle.engine.specs.declared.Closing.the-variants.{Refused as CloseRefused}
 use Rattle.engine.specs.Call.{emptyRun, freshOf, askOf, closeOf}

@@ -11,7 +11,7 @@ use Rattle.history.specs.History.{History}
 use Rattle.history.specs.Interval.{intervalOf}
 use Rattle.history.specs.Claim.{Claim}
 use Rattle.history.specs.Given.{windowOf}
-use Rattle.tables.specs.Give.{giveOf}
+use Rattle.events.specs.Give.{giveOf}
 use Rattle.engine.specs.declared.Asked.the-variants.{Known}
 use Rattle.engine.specs.Call.{askOf}
 use Rattle.engine.specs.Tracks.{Tracks}

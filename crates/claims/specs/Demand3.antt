@@ -18,7 +18,7 @@ use Rattle.history.specs.Interval.{epochAt}
 use Rattle.history.specs.Assertion.{BrokenByte, BrokenPair}
 use Rattle.history.specs.Transaction.{depth, Since}
 use Rattle.history.specs.Given.{windowOf, Accepted, ClaimRun, reported}
-use Rattle.tables.specs.Give.{giveOf}
+use Rattle.events.specs.Give.{giveOf}
 use Rattle.engine.specs.declared.Closing.the-variants.{Totals}
 use Rattle.engine.specs.Call.{closeOf}
 use Rattle.verdict.specs.declared.Verdict.the-variants.{Accepted as Totalled}

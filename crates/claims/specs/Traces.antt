@@ -13,7 +13,7 @@ use Rattle.event.specs.declared.Parsed.the-variants.{Record, Refused as Unread}
 use Rattle.codec.specs.Codec.{findingBytes, findingSize}
 use Rattle.history.specs.History.{History}
 use Rattle.history.specs.Given.{RefusedBy, Accepted}
-use Rattle.tables.specs.Give.{giveOf}
+use Rattle.events.specs.Give.{giveOf}
 use Rattle.engine.specs.declared.Closing.the-variants.{Totals}
 use Rattle.engine.specs.Call.{freshOf, closeOf}
 use Rattle.trace.specs.Records.{linesIn, recordsIn, eventsIn}

@@ -15,7 +15,7 @@ use Rattle.history.specs.Given.{Accepted, answerOf}
 use Rattle.history.proofs.Given.{Checked, checked, answer-refused, answer-found}
 use Rattle.tables.specs.declared.Run.{Run}
 use Rattle.tables.specs.View.{ofRun}
-use Rattle.tables.specs.Give.{nextOf, givenFor, giveOf}
+use Rattle.events.specs.Give.{nextOf, givenFor, giveOf}
 
 -- the event is refused, and the run stays as it was; or it is accepted, and its finding leads to the next run
 pub data Answered (lines : ℕ) (h : History) (run : Run) (r : Record) : Type 0 where

@@ -11,7 +11,7 @@ use Rattle.history.specs.History.{stores, writesBack, fences, logs, storesByte,
 use Rattle.tables.specs.declared.Run.{Run}
 use Rattle.tables.specs.Table.{entry}
 use Rattle.tables.specs.View.{linesOf}
-use Rattle.tables.specs.Next.{numberOf, oneMore, closes, tablesAfter}
+use Rattle.events.specs.Next.{numberOf, oneMore, closes, tablesAfter}
 use Rattle.tables.proofs.Table.{changed-inside, changed-above}
 use Rattle.engine.proofs.Sizes.{Sized}
 use Rattle.engine.proofs.Filled.{Fits, fits, filled-bytes, filled-lines}

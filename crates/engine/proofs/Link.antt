@@ -20,7 +20,7 @@ use Rattle.history.proofs.Interval.{last-store-on-line}
 use Rattle.tables.specs.declared.Run.{Run}
 use Rattle.tables.specs.Table.{entry}
 use Rattle.tables.specs.View.{intervalFrom, ofRun}
-use Rattle.tables.specs.Give.{nextOf}
+use Rattle.events.specs.Give.{nextOf}
 use Rattle.engine.specs.Call.{emptyRun}
 use Rattle.engine.specs.Given.{runAfter, outcomes}
 use Rattle.engine.specs.Tracks.{Tracks}

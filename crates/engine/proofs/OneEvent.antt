@@ -23,8 +23,8 @@ use Rattle.history.proofs.Meaning.Events.{epoch-next}
 use Rattle.history.proofs.Meaning.Accepted.{Taken}
 use Rattle.tables.specs.declared.Run.{Run}
 use Rattle.tables.specs.View.{linesOf, ofRun}
-use Rattle.tables.specs.Next.{oneMore, closes, countsAfter, tablesAfter}
-use Rattle.tables.specs.Give.{nextOf}
+use Rattle.events.specs.Next.{oneMore, closes, countsAfter, tablesAfter}
+use Rattle.events.specs.Give.{nextOf}
 use Rattle.engine.specs.Tracks.{Tracks}
 use Rattle.engine.proofs.Histories.{last-next, count-within, accepted-within, taken-inside}
 use Rattle.engine.proofs.Epochs.{closing, closing-unstored}

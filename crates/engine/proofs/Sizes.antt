@@ -4,7 +4,7 @@ use lib.ListN.{length}
 use Rattle.event.specs.declared.Event.{Event}
 use Rattle.event.specs.declared.Event.the-variants.{Store, WriteBack, Fence, Begin, Log, End, Persisted, Ordered}
 use Rattle.tables.specs.declared.Run.{Run}
-use Rattle.tables.specs.Next.{tablesAfter}
+use Rattle.events.specs.Next.{tablesAfter}
 use Rattle.tables.proofs.Table.{changed-length}
 
 -- the tables have the sizes of the largest window

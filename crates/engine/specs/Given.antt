@@ -3,7 +3,7 @@ use mathlib.Core.List.{List, [], _∷_}
 use Rattle.event.specs.declared.Record.{Record}
 use Rattle.event.specs.declared.Answer.{Answer}
 use Rattle.tables.specs.declared.Run.{Run}
-use Rattle.tables.specs.Give.{giveOf}
+use Rattle.events.specs.Give.{giveOf}
 
 -- the run after them
 unfoldable pub runAfter : Run → List Record → Run

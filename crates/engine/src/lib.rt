@@ -5,11 +5,11 @@ use event::Range;
 use event::Record;
 use event::Refusal;
 use event::window;
-use tables::Given;
+use events::Given;
 use tables::Run;
 ghost use mathlib.Core.Path.{_≡_};
 ghost use Rattle.tables.specs.View.{intervalFrom};
-ghost use Rattle.tables.specs.Give.{giveOf};
+ghost use Rattle.events.specs.Give.{giveOf};
 ghost use Rattle.engine.specs.Call.{emptyRun, freshOf, askOf, closeOf};
 
 // A fresh window: what the check of its lines says, and the run.
@@ -76,7 +76,7 @@ pub fn give(run: Run, r: Record) -> Given
     let mut closed = run.closed;
     let mut written = run.written;
     let mut backed = run.backed;
-    let step = tables::step(
+    let step = events::step(
         counts,
         &mut stored,
         &mut logged,

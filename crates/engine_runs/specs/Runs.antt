@@ -9,7 +9,7 @@ use Rattle.event.specs.declared.Parsed.{Parsed}
 use Rattle.event.specs.declared.Parsed.the-variants.{Record, Refused}
 use Rattle.codec.specs.Codec.{u16At, parsed}
 use Rattle.tables.specs.declared.Run.{Run}
-use Rattle.tables.specs.Give.{giveOf}
+use Rattle.events.specs.Give.{giveOf}
 use Rattle.engine.specs.Call.{freshOf}
 
 -- after a record; one that cannot be read changes nothing

@@ -24,7 +24,7 @@ use Rattle.history.specs.Found.{findingBy}
 use Rattle.history.specs.Given.{answerFor, answerOf, accepted, answers, reported}
 use Rattle.tables.specs.declared.Run.{Run}
 use Rattle.tables.specs.View.{ofRun}
-use Rattle.tables.specs.Give.{nextOf, giveOf}
+use Rattle.events.specs.Give.{nextOf, giveOf}
 use Rattle.engine.specs.Call.{emptyRun}
 use Rattle.engine.specs.Given.{runAfter}
 use Rattle.engine.proofs.OneEvent.{Follows, follows-next}

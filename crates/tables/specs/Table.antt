@@ -1,9 +1,9 @@
 -- A table, and the one way in which it is changed: some entries in a row, each made from its place and what stood there.
 use mathlib.Core.List.{List}
-use Prim.Native.Nat.{ℕ, zero, suc, _+_}
+use Prim.Native.Nat.{ℕ, zero, suc, _+_, _-_, min}
 use lib.ListN.{getD, set}
 use Rattle.event.specs.declared.Range.{Range}
-use Rattle.event.specs.Window.{lineOf, lineCount}
+use Rattle.event.specs.Window.{mostLines, windowBytes, lineOf, lineCount}
 
 -- the entry at a place; 0 past the end
 abbrev pub entry : List ℕ → ℕ → ℕ
@@ -25,3 +25,11 @@ filledBytes x a xs = filled x (a .address) (a .length) xs
 -- the entries of the lines that a range touches become x
 abbrev pub filledLines : ℕ → Range → List ℕ → List ℕ
 filledLines x a xs = filled x (lineOf (a .address)) (lineCount a) xs
+
+-- a table over bytes has an entry for each byte of the largest window
+abbrev pub tableBytes : ℕ
+tableBytes = windowBytes mostLines
+
+-- the part of a range that the tables have
+abbrev pub inTables : Range → Range
+inTables a = record { address = min (a .address) tableBytes; length = min (a .length) (tableBytes - a .address) }

@@ -1,8 +1,8 @@
 -- The questions of a judge (`View`), answered by a run.
-use mathlib.Core.Bool.{_&&_}
+use mathlib.Core.Bool.{cond, _&&_}
 use mathlib.Core.List.{List}
 use Prim.Native.Nat.{ℕ, min}
-use lib.Dec.{ltb}
+use lib.Dec.{eqb, ltb}
 use Rattle.event.specs.declared.Interval.{Interval}
 use Rattle.event.specs.declared.Interval.the-variants.{None, Open, Closed}
 use Rattle.event.specs.Window.{mostLines, lineOf}
@@ -25,6 +25,10 @@ noCounts lines = record { lines = lines; events = 0; fences = 0; findings = 0; d
 -- the window's lines, at most those of the largest window: so no run leads past the end of a table
 abbrev pub linesOf : Counts → ℕ
 linesOf counts = min (counts .lines) mostLines
+
+-- the latest outermost begin after a begin with this number: it, where no transaction was open
+abbrev pub beginAfter : (depth begin number : ℕ) → ℕ
+beginAfter depth begin number = cond (eqb depth 0) number begin
 
 -- what the limits on an event ask of a run
 abbrev pub limitsOf : Counts → View

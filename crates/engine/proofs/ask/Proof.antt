@@ -9,7 +9,7 @@ use borrow.Author.Needs.{needs}
 use Rattle.event.proofs.Laws.{equal-by}
 use Rattle.event.specs.Window.{isPast}
 use Rattle.tables.specs.View.{linesOf}
-use Rattle.tables.proofs.Passed.{within-tables}
+use Rattle.events.proofs.Passed.{within-tables}
 use Rattle.engine.proofs.ask.Statement.{statement}
 use Rattle.engine.proofs.ask.Tie as tie
 

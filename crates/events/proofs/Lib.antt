@@ -1,0 +1,4 @@
+-- Laws of events given to a run.
+pub mod Passed  -- the ranges of an event that no limit refuses are within the tables
+pub mod FenceClosed  -- a fence closes the bytes that a judge closes
+pub mod Steps  -- the outcome of an event given, from its parts

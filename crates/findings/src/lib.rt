@@ -1,0 +1,142 @@
+// The finding of each kind of event, from the tables before it.
+use event::Event;
+use event::Finding;
+use event::Range;
+use event::window;
+use pairs::PairSearch;
+use searches::Search;
+use searches::Test;
+use tables::Counts;
+ghost use mathlib.Core.Path.{_≡_};
+ghost use mathlib.Core.List.{[]};
+ghost use mathlib.Core.Option.{some};
+ghost use Prim.Native.Nat.{ℕ, _<_};
+ghost use Rattle.history.specs.Found.{lowestIn, findingBy};
+ghost use Rattle.tables.specs.Table.{inTables};
+ghost use Rattle.tables.specs.View.{runOf, noCounts, ofRun};
+ghost use Rattle.searches.specs.Tests.{foundBy, passing};
+ghost use Rattle.findings.specs.Findings.{durableAt, endedAt};
+
+// A store: unlogged, where a transaction is open.
+pub fn of_store(counts: Counts, logged: &[u16; 4096], a: Range) -> Finding
+    ensures { λ r. ⌜ r ≡ findingBy (ofRun (runOf counts [] (now (logged .entry)) [] [] [] [])) (Event.Store (inTables a)) ⌝ }
+{
+    if counts.depth == 0 {
+        return Finding::None;
+    }
+    match searches::first_byte(Test::NotSince(counts.begin), logged, logged, a) {
+        Search::Nothing => Finding::None,
+        Search::At(b) => Finding::Unlogged { lost: b },
+    }
+}
+
+// A write-back: clean or written twice.
+pub fn of_back(written: &[u16; 64], backed: &[u16; 64], a: Range) -> Finding
+    ensures { λ r. ⌜
+        r ≡
+        findingBy (ofRun (runOf (noCounts 0) [] [] [] [] (now (written .entry)) (now (backed .entry)))) (Event.WriteBack (inTables a))
+        ⌝ }
+{
+    match searches::first_line(Test::Wasted, written, backed, a) {
+        Search::Nothing => Finding::None,
+        Search::At(l) => {
+            let lost = window::line_start(l);
+            let i = l as usize;
+            if written[i] == 0 {
+                Finding::Clean { lost }
+            } else {
+                Finding::WrittenTwice { lost }
+            }
+        }
+    }
+}
+
+// A log: logged twice.
+pub fn of_log(counts: Counts, logged: &[u16; 4096], a: Range) -> Finding
+    ensures { λ r. ⌜ r ≡ findingBy (ofRun (runOf counts [] (now (logged .entry)) [] [] [] [])) (Event.Log (inTables a)) ⌝ }
+{
+    match searches::first_byte(Test::Since(counts.begin), logged, logged, a) {
+        Search::Nothing => Finding::None,
+        Search::At(b) => Finding::LoggedTwice { lost: b },
+    }
+}
+
+// Holds where a search found nothing, and lost at the byte that it found, by the event with this number.
+fn lost_at(number: u16, stored: &[u16; 4096], s: Search) -> Finding
+    requires { ⌜ ((b : ℕ) → foundBy s ≡ some b → b < 4096) ⌝ }
+    ensures { λ r. ⌜ r ≡ durableAt number (now (stored .entry)) (foundBy s) ⌝ }
+{
+    match s {
+        Search::Nothing => Finding::Holds,
+        Search::At(b) => {
+            let i = b as usize;
+            Finding::Lost {
+                lost: b,
+                moment: number,
+                store: stored[i],
+            }
+        }
+    }
+}
+
+// A persisted with this number: holds or lost.
+pub fn of_persisted(number: u16, stored: &[u16; 4096], closed: &[u16; 4096], a: Range) -> Finding
+    ensures { λ r. ⌜
+        r ≡
+        durableAt number (now (stored .entry))
+        (lowestIn (passing (Test.OpenSince 0) (now (stored .entry)) (now (closed .entry))) (inTables a))
+        ⌝ }
+{
+    let s = searches::first_open(0, stored, closed, a);
+    lost_at(number, stored, s)
+}
+
+// An end with this number: none if it is an inner one; else empty, or as a persisted over the bytes stored since the begin.
+pub fn of_end(
+    number: u16,
+    counts: Counts,
+    stored: &[u16; 4096],
+    closed: &[u16; 4096],
+    written: &[u16; 64],
+) -> Finding
+    ensures { λ r. ⌜ r ≡ endedAt number counts (now (stored .entry)) (now (closed .entry)) (now (written .entry)) ⌝ }
+{
+    if counts.depth != 1 {
+        return Finding::None;
+    }
+    if counts.store <= counts.begin {
+        return Finding::Empty;
+    }
+    let s = searches::first_since_begin(counts, stored, closed, written);
+    lost_at(number, stored, s)
+}
+
+// An ordered: holds or out of order.
+pub fn of_ordered(
+    stored: &[u16; 4096],
+    opened: &[u16; 4096],
+    closed: &[u16; 4096],
+    a: Range,
+    b: Range,
+) -> Finding
+    ensures { λ r. ⌜
+        r ≡
+        findingBy
+        (ofRun (runOf (noCounts 0) (now (stored .entry)) [] (now (opened .entry)) (now (closed .entry)) [] []))
+        (Event.Ordered (inTables a) (inTables b))
+        ⌝ }
+{
+    match pairs::first_pair(stored, opened, closed, a, b) {
+        PairSearch::Nothing => Finding::Holds,
+        PairSearch::At { kept, lost } => {
+            let k = kept as usize;
+            let l = lost as usize;
+            Finding::OutOfOrder {
+                lost,
+                kept,
+                moment: stored[k],
+                store: stored[l],
+            }
+        }
+    }
+}

@@ -1,0 +1,163 @@
+// Searches over pairs of bytes: the lowest that a crash may keep, and the lowest that it loses with it.
+use event::Range;
+ghost use mathlib.Core.Path.{_≡_};
+ghost use Prim.Native.Nat.{_+_, _/_, _≤_, _<_};
+ghost use Rattle.history.specs.Found.{lowest, lowestPair};
+ghost use Rattle.tables.specs.Table.{inTables};
+ghost use Rattle.searches.specs.Tests.{isFound, skipped};
+ghost use Rattle.pairs.specs.Pairs.{pairSearched, isBroken, lostWith, brokenPair};
+
+// What a search over pairs of bytes found.
+pub enum PairSearch {
+    Nothing,
+    At { kept: u16, lost: u16 },
+}
+
+// Whether a crash may keep one byte and lose another. There is no branch, so that several bytes can be looked at at once.
+fn is_broken(kept_store: u16, lost_store: u16, one_line: bool, opened: u16, closed: u16) -> bool
+    ensures { λ r. ⌜ r ≡ isBroken «kept_store» «lost_store» «one_line» opened closed ⌝ }
+{
+    let later = kept_store < lost_store; // a later store is no 0
+    let open = (lost_store != 0) & ((closed == 0) | (opened < closed));
+    (kept_store != 0) & ((one_line & later) | (!one_line & open))
+}
+
+// Whether a crash may lose byte b and keep a byte of this line, with this last store and opening epoch.
+fn may_lose(
+    stored: &[u16; 4096],
+    closed: &[u16; 4096],
+    store: u16,
+    opened: u16,
+    line: u16,
+    b: usize,
+) -> bool
+    requires { ⌜ b < 4096 ⌝ }
+    ensures { λ r. ⌜ r ≡ lostWith (now (stored .entry)) (now (closed .entry)) store opened line b ⌝ }
+{
+    is_broken(store, stored[b], line == (b as u16) / 64, opened, closed[b])
+}
+
+// Whether it may lose one of the n bytes from `at` on.
+fn any_lost(
+    stored: &[u16; 4096],
+    closed: &[u16; 4096],
+    store: u16,
+    opened: u16,
+    line: u16,
+    at: usize,
+    n: usize,
+) -> bool
+    requires { ⌜ at + n ≤ 4096 ⌝ }
+    ensures { λ r. ⌜ r ≡ isFound (lowest (lostWith (now (stored .entry)) (now (closed .entry)) store opened line) at n) ⌝ }
+{
+    let mut found = false;
+    let mut i = 0;
+    while i < n {
+        found = found | may_lose(stored, closed, store, opened, line, at + i);
+        i += 1;
+    }
+    found
+}
+
+// The place after the eights in front in which it may lose no byte, of the n from `at` on.
+fn skip_lost(
+    stored: &[u16; 4096],
+    closed: &[u16; 4096],
+    store: u16,
+    opened: u16,
+    line: u16,
+    at: usize,
+    n: usize,
+) -> usize
+    requires { ⌜ at + n ≤ 4096 ⌝ }
+    ensures { λ r. ⌜ r ≡ skipped (lostWith (now (stored .entry)) (now (closed .entry)) store opened line) at (n / 8) ⌝ }
+{
+    let end = at + n;
+    let mut b = at;
+    while b + 8 <= end {
+        if any_lost(stored, closed, store, opened, line, b, 8) {
+            return b;
+        }
+        b += 8;
+    }
+    b
+}
+
+// The lowest of the m bytes from `start` on that a crash may keep while it loses one of the n from `at` on, and the lowest that it
+// loses with it.
+fn first_broken(
+    stored: &[u16; 4096],
+    opened: &[u16; 4096],
+    closed: &[u16; 4096],
+    at: usize,
+    n: usize,
+    start: usize,
+    m: usize,
+) -> PairSearch
+    requires { ⌜ (at + n ≤ 4096) × (start + m ≤ 4096) ⌝ }
+    ensures { λ r. ⌜
+        r ≡
+        pairSearched
+        (lowestPair
+        (brokenPair (now (stored .entry)) (now (opened .entry)) (now (closed .entry)))
+        (record { address = at; length = n })
+        start
+        m)
+        ⌝ }
+{
+    let mut found = PairSearch::Nothing;
+    let mut kept = start;
+    let kept_end = start + m;
+    let lost_end = at + n;
+    'kept: while kept < kept_end {
+        let store = stored[kept];
+        if store != 0 {
+            let epoch = opened[kept];
+            let line = (kept as u16) / 64;
+            let mut lost = skip_lost(stored, closed, store, epoch, line, at, n);
+            while lost < lost_end {
+                if may_lose(stored, closed, store, epoch, line, lost) {
+                    found = PairSearch::At {
+                        kept: kept as u16,
+                        lost: lost as u16,
+                    };
+                    break 'kept;
+                }
+                lost += 1;
+            }
+        }
+        kept += 1;
+    }
+    found
+}
+
+// The lowest byte of B that a crash may keep while it loses one of A, and the lowest that it loses with it.
+pub fn first_pair(
+    stored: &[u16; 4096],
+    opened: &[u16; 4096],
+    closed: &[u16; 4096],
+    a: Range,
+    b: Range,
+) -> PairSearch
+    ensures { λ r. ⌜
+        r ≡
+        pairSearched
+        (lowestPair
+        (brokenPair (now (stored .entry)) (now (opened .entry)) (now (closed .entry)))
+        (inTables a)
+        (inTables b .address)
+        (inTables b .length))
+        ⌝ }
+{
+    let lost = tables::in_tables(a);
+    let kept = tables::in_tables(b);
+    first_broken(
+        stored,
+        opened,
+        closed,
+        lost.address as usize,
+        lost.length as usize,
+        kept.address as usize,
+        kept.length as usize,
+    )
+}
