@@ -1,10 +1,10 @@
 // A trace of the corpus, judged and counted: whether what the judge leaves in the findings area and what is printed for the trace are as
 // the corpus says.
 use event::numbers;
-use judge::Verdict;
+use verdict::Verdict;
 ghost use mathlib.Core.Path.{_≡_};
 ghost use lib.ListN.{length};
-ghost use Rattle.judge.specs.Verdict.{verdictOf, areaAfter};
+ghost use Rattle.verdict.specs.Verdict.{verdictOf, areaAfter};
 ghost use Rattle.corpus.specs.Agrees.{areaBefore, Agrees, Tests};
 ghost use Rattle.corpus.specs.Tally.{counted, placeOf, kindsFrom, kindsIn};
 

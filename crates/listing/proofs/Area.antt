@@ -28,9 +28,9 @@ use Rattle.trace.specs.Trailer.{mostBytes, trailerOf, endOf}
 use Rattle.trace.specs.Records.{recordPart, eventsOf, linesIn, recordsIn, eventsIn}
 use Rattle.trace.specs.Checked.{checkFrom, checkAll}
 use Rattle.trace.proofs.RecordsNext.{records-counted}
-use Rattle.judge.specs.Verdict.{findingsBytes, areaSize, traceLimits, traceCheck, historyOf, answersOf, areaAfter}
-use Rattle.judge.proofs.Whole.{unless-passed}
-use Rattle.judge.proofs.Outcome.{area-holds}
+use Rattle.verdict.specs.Verdict.{findingsBytes, areaSize, traceLimits, traceCheck, historyOf, answersOf, areaAfter}
+use Rattle.verdict.proofs.Order.{unless-passed}
+use Rattle.verdict.proofs.Outcome.{area-holds}
 use Rattle.finding_lines.specs.Lines.{findingLine}
 use Rattle.finding_lines.specs.Area.{lineAt, linesFrom}
 use Rattle.listing.specs.Report.{findingLines}

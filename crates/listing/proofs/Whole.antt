@@ -10,8 +10,8 @@ use Rattle.history.specs.Given.{reported}
 use Rattle.trace.specs.declared.TraceCheck.{TraceCheck}
 use Rattle.trace.specs.declared.TraceCheck.the-variants.{Passed, Refused as RefusedAt}
 use Rattle.trace.specs.Records.{linesIn, eventsIn}
-use Rattle.judge.specs.declared.Verdict.the-variants.{Refused, Accepted}
-use Rattle.judge.specs.Verdict.{traceCheck, historyOf, answersOf, verdictFor, verdictOf, areaAfter}
+use Rattle.verdict.specs.declared.Verdict.the-variants.{Refused, Accepted}
+use Rattle.verdict.specs.Verdict.{traceCheck, historyOf, answersOf, verdictFor, verdictOf, areaAfter}
 use Rattle.text.specs.Text.{Out, put}
 use Rattle.lines.specs.Lines.{headLine, footLine, refusalLine}
 use Rattle.finding_lines.specs.Area.{linesFrom}

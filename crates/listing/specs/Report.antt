@@ -10,7 +10,7 @@ use Rattle.history.specs.Given.{reported}
 use Rattle.trace.specs.declared.TraceCheck.{TraceCheck}
 use Rattle.trace.specs.declared.TraceCheck.the-variants.{Passed, Refused}
 use Rattle.trace.specs.Records.{linesIn, eventsIn}
-use Rattle.judge.specs.Verdict.{traceCheck, historyOf, answersOf}
+use Rattle.verdict.specs.Verdict.{traceCheck, historyOf, answersOf}
 use Rattle.lines.specs.Lines.{headLine, footLine, refusalLine}
 use Rattle.finding_lines.specs.Lines.{findingLine}
 

@@ -1,13 +1,13 @@
 // The text that the program prints for a trace.
 use event::numbers;
-use judge::Verdict;
+use verdict::Verdict;
 use trace::opening;
 ghost use mathlib.Core.Path.{_≡_};
 ghost use mathlib.Core.List.{_++_};
 ghost use Prim.Native.Nat.{_≤_};
 ghost use lib.ListN.{length, take, drop};
 ghost use Rattle.trace.specs.Records.{linesIn};
-ghost use Rattle.judge.specs.Verdict.{areaAfter};
+ghost use Rattle.verdict.specs.Verdict.{areaAfter};
 ghost use Rattle.text.specs.Text.{out, put};
 ghost use Rattle.lines.specs.Lines.{headLine, footLine};
 ghost use Rattle.finding_lines.specs.Area.{linesFrom};

@@ -10,8 +10,8 @@ use Rattle.event.specs.declared.Answer.the-variants.{Refused, Found}
 use Rattle.event.specs.declared.Parsed.{Parsed}
 use Rattle.event.specs.declared.Parsed.the-variants.{Record, Refused as Unread}
 use Rattle.codec.specs.Codec.{findingBytes}
-use Rattle.tables.specs.declared.Given.{Given}
-use Rattle.tables.specs.Give.{giveOf}
+use Rattle.events.specs.declared.Given.{Given}
+use Rattle.events.specs.Give.{giveOf}
 use Rattle.record_step.specs.Step.{placed, placedFor, Stage, stage, recordAnswer, recordGiven}
 
 -- the finding of an event, put into a buffer

@@ -10,7 +10,7 @@ use Rattle.event.specs.declared.Parsed.{Parsed}
 use Rattle.event.specs.declared.Parsed.the-variants.{Record, Refused as Unread}
 use Rattle.codec.specs.Codec.{findingBytes}
 use Rattle.tables.specs.declared.Run.{Run}
-use Rattle.tables.specs.Give.{giveOf}
+use Rattle.events.specs.Give.{giveOf}
 
 -- the buffer with these bytes at a place; as it was where they do not fit
 abbrev pub placed : ℕ → List ℕ → List ℕ → List ℕ

@@ -2,7 +2,7 @@
 use event::Answer;
 use event::Parsed;
 use tables::Counts;
-use tables::Stepped;
+use events::Stepped;
 ghost use mathlib.Core.Path.{_≡_};
 ghost use Rattle.tables.specs.View.{runOf};
 ghost use Rattle.record_step.specs.Step.{placed, placedFor, stage, recordAnswer, recordGiven};
@@ -70,7 +70,7 @@ pub fn judge_record(
             counts,
         },
         Parsed::Record(r) => {
-            let s = tables::step(counts, stored, logged, opened, closed, written, backed, r);
+            let s = events::step(counts, stored, logged, opened, closed, written, backed, r);
             let answer = s.answer;
             put_found(buffer, at, answer, r.site);
             s
