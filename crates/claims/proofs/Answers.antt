@@ -17,7 +17,7 @@ use Rattle.event.specs.declared.Check.{Check}
 use Rattle.event.specs.declared.Check.the-variants.{Passed, Refused as Breaks}
 use Rattle.event.specs.declared.Answer.{Answer}
 use Rattle.event.specs.declared.Answer.the-variants.{Refused, Found}
-use Rattle.event.specs.Window.{mostLines}
+use Rattle.window.specs.Window.{mostLines}
 use Rattle.history.specs.Interval.{epochAt}
 use Rattle.history.specs.Transaction.{depth}
 use Rattle.history.specs.View.{ofHistory}

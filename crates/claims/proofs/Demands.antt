@@ -11,7 +11,7 @@ use Rattle.event.specs.declared.Refusal.{Refusal}
 use Rattle.event.specs.declared.Refusal.the-variants.{BadLines, PastWindow, TransactionOpen}
 use Rattle.event.specs.declared.Check.the-variants.{Passed, Refused as Breaks}
 use Rattle.event.specs.declared.Answer.the-variants.{Found}
-use Rattle.event.specs.Window.{mostLines, windowBytes}
+use Rattle.window.specs.Window.{mostLines, windowBytes}
 use Rattle.history.specs.Interval.{intervalOf}
 use Rattle.history.specs.View.{View, ofHistory}
 use Rattle.history.specs.Found.{findingBy}

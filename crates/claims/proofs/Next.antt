@@ -10,7 +10,7 @@ use lib.ListN.{length}
 use borrow.Author.Tests.{lt-ltb, le-ltb}
 use Rattle.event.specs.declared.Record.{Record}
 use Rattle.event.specs.declared.Interval.the-variants.{Open}
-use Rattle.event.specs.Window.{lineOf}
+use Rattle.window.specs.Window.{lineOf}
 use Rattle.history.specs.Count.{last}
 use Rattle.history.specs.History.{History, is, fences, storesByte, writesBackLine}
 use Rattle.history.specs.Interval.{epochAt, lastStore, intervalOf}

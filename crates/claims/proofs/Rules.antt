@@ -5,7 +5,7 @@ use mathlib.Core.Logic.{⊎-elim}
 use Prim.Native.Nat.{ℕ, suc}
 use Rattle.event.specs.declared.Event.{Event}
 use Rattle.event.specs.declared.Interval.the-variants.{Open}
-use Rattle.event.specs.Window.{lineOf}
+use Rattle.window.specs.Window.{lineOf}
 use Rattle.event.proofs.Bools.{fails, or-cases}
 use Rattle.history.specs.History.{fences, storesByte, writesBackLine}
 use Rattle.history.specs.Found.{isOpen}

@@ -18,7 +18,7 @@ use Rattle.event.specs.declared.Finding.{Finding}
 use Rattle.event.specs.declared.Answer.the-variants.{Found}
 use Rattle.event.specs.declared.Parsed.the-variants.{Record}
 use Rattle.codec.specs.Codec.{findingBytes, findingSize}
-use Rattle.event.specs.Window.{linesCheck}
+use Rattle.window.specs.Window.{linesCheck}
 use Rattle.history.specs.History.{History}
 use Rattle.history.specs.Interval.{epochAt}
 use Rattle.history.specs.Transaction.{depth}
@@ -30,9 +30,9 @@ use Rattle.events.specs.Give.{giveOf}
 use Rattle.engine.specs.declared.Closing.the-variants.{Totals}
 use Rattle.engine.specs.Call.{closeOf}
 use Rattle.trace.specs.declared.TraceCheck.the-variants.{Passed as AllPass}
-use Rattle.trace.specs.Trailer.{trailerOf}
+use Rattle.trailer.specs.Trailer.{trailerOf}
 use Rattle.trace.specs.Records.{recordPart, linesIn, recordsIn, eventsIn}
-use Rattle.trace.proofs.Lines.{window-lines}
+use Rattle.trailer.proofs.Lines.{window-lines}
 use Rattle.trace.proofs.RecordsNext.{records-counted}
 use Rattle.verdict.specs.declared.Verdict.the-variants.{Refused as RefusedAt, Accepted as Totalled}
 use Rattle.verdict.specs.Verdict.{areaSize, traceLimits, traceCheck, historyOf, answersOf, verdictOf, findingsBytes, areaAfter}

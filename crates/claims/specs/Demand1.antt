@@ -11,7 +11,7 @@ use Rattle.event.specs.declared.Refusal.the-variants.{BadLines, PastWindow, Tra
 use Rattle.event.specs.declared.Check.the-variants.{Passed, Refused as Breaks}
 use Rattle.event.specs.declared.Answer.the-variants.{Refused, Found}
 use Rattle.event.specs.Numbers.{numberOf}
-use Rattle.event.specs.Window.{mostLines, windowBytes}
+use Rattle.window.specs.Window.{mostLines, windowBytes}
 use Rattle.history.specs.History.{History}
 use Rattle.history.specs.Transaction.{depth}
 use Rattle.history.specs.Refused.{Limit, First, NoneBroken}

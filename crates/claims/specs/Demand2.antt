@@ -6,7 +6,7 @@ use Prim.Native.Nat.{ℕ, _<_}
 use Rattle.event.specs.declared.Record.{Record}
 use Rattle.event.specs.declared.Finding.{Finding}
 use Rattle.event.specs.declared.Answer.the-variants.{Found}
-use Rattle.event.specs.Window.{windowBytes}
+use Rattle.window.specs.Window.{windowBytes}
 use Rattle.history.specs.History.{History}
 use Rattle.history.specs.Interval.{intervalOf}
 use Rattle.history.specs.Claim.{Claim}

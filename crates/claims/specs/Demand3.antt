@@ -12,7 +12,7 @@ use Rattle.event.specs.declared.Record.{Record}
 use Rattle.event.specs.declared.Finding.the-variants.{Holds}
 use Rattle.event.specs.declared.Answer.{Answer}
 use Rattle.event.specs.declared.Answer.the-variants.{Found}
-use Rattle.event.specs.Window.{covers}
+use Rattle.window.specs.Window.{covers}
 use Rattle.history.specs.History.{stores, storesByte}
 use Rattle.history.specs.Interval.{epochAt}
 use Rattle.history.specs.Assertion.{BrokenByte, BrokenPair}

@@ -1,2 +1,2 @@
--- The bytes of a record and of a finding.
+-- Numbers and findings as bytes.
 pub mod Codec

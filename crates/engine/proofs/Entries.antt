@@ -6,7 +6,7 @@ use native.Mathlib.Omega.{arith}
 use native.Mathlib.Decide.{decLe}
 use Rattle.event.specs.declared.Event.{Event}
 use Rattle.event.specs.declared.Event.the-variants.{Store, WriteBack, Fence, Begin, Log, End, Persisted, Ordered}
-use Rattle.event.specs.Window.{mostLines, windowBytes, isPast, rangesOf, anyRange}
+use Rattle.window.specs.Window.{mostLines, windowBytes, isPast, rangesOf, anyRange}
 use Rattle.history.specs.History.{stores, writesBack, fences, logs, storesByte, storesLine, writesBackLine, logsByte}
 use Rattle.tables.specs.declared.Run.{Run}
 use Rattle.tables.specs.Table.{entry}

@@ -9,7 +9,7 @@ use lib.Dec.{ltb}
 use lib.ListN.{length}
 use borrow.Author.Tests.{ltb-true, lt-ltb}
 use Rattle.event.specs.declared.Interval.the-variants.{None, Open, Closed}
-use Rattle.event.specs.Window.{lineOf}
+use Rattle.window.specs.Window.{lineOf}
 use Rattle.history.specs.Count.{count, last, ifSome}
 use Rattle.history.specs.History.{History, is, fences}
 use Rattle.history.specs.Interval.{epochAt, lastStore, fenceAfter, intervalOf}

@@ -9,9 +9,9 @@ use lib.Dec.{leb, ltb}
 use lib.ListN.{length}
 use borrow.Author.Tests.{eqb-false, leb-true, le-leb, ltb-true, lt-ltb, ltb-false}
 use Rattle.event.specs.declared.Range.{Range}
-use Rattle.event.specs.Window.{mostLines, windowBytes, lineOf, rangeEnd, covers, isEmpty, touches, lineCount, isPast}
+use Rattle.window.specs.Window.{mostLines, windowBytes, lineOf, rangeEnd, covers, isEmpty, touches, lineCount, isPast}
 use Rattle.event.proofs.Bools.{and-left, and-right, both}
-use Rattle.event.proofs.Meaning.{touched, touched-below, below-touched}
+use Rattle.window.proofs.Meaning.{touched, touched-below, below-touched}
 use Rattle.tables.specs.Table.{entry, filledBytes, filledLines}
 use Rattle.tables.proofs.Table.{changed-entry}
 

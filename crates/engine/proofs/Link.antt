@@ -8,7 +8,7 @@ use lib.Dec.{ltb}
 use lib.ListN.{length}
 use borrow.Author.Tests.{lt-ltb, ltb-true}
 use Rattle.event.specs.declared.Record.{Record}
-use Rattle.event.specs.Window.{mostLines, lineOf}
+use Rattle.window.specs.Window.{mostLines, lineOf}
 use Rattle.history.specs.Count.{last}
 use Rattle.history.specs.History.{History, is, storesLine}
 use Rattle.history.specs.Interval.{lastStore, intervalOf}

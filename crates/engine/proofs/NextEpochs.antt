@@ -12,7 +12,7 @@ use borrow.Author.Tests.{eqb-true}
 use Rattle.event.specs.declared.Event.{Event}
 use Rattle.event.specs.declared.Record.{Record}
 use Rattle.event.specs.Numbers.{kindOf}
-use Rattle.event.specs.Window.{lineOf}
+use Rattle.window.specs.Window.{lineOf}
 use Rattle.event.proofs.Bools.{fails, and-left}
 use Rattle.history.specs.Count.{count}
 use Rattle.history.specs.History.{History, stores, fences, coversByte, storesByte}

@@ -11,7 +11,7 @@ use Rattle.event.specs.declared.Record.{Record}
 use Rattle.event.specs.declared.Finding.{Finding}
 use Rattle.event.specs.declared.Answer.the-variants.{Found}
 use Rattle.event.specs.Numbers.{isNone}
-use Rattle.event.specs.Window.{mostLines, windowBytes, lineOf}
+use Rattle.window.specs.Window.{mostLines, windowBytes, lineOf}
 use Rattle.history.specs.History.{History, is, stores, fences, storesLine, writesBackLine, logsByte}
 use Rattle.history.specs.Interval.{epochAt, lastStore, intervalOf}
 use Rattle.history.specs.Transaction.{depth, depthAfter, outermost}

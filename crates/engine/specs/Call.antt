@@ -4,7 +4,7 @@ use Prim.Native.Nat.{ℕ}
 use lib.Dec.{eqb}
 use lib.ListN.{replicate}
 use Rattle.event.specs.declared.Refusal.the-variants.{PastWindow, TransactionOpen}
-use Rattle.event.specs.Window.{isPast, linesCheck}
+use Rattle.window.specs.Window.{isPast, linesCheck}
 use Rattle.history.specs.Given.{windowOf}
 use Rattle.tables.specs.declared.Run.{Run}
 use Rattle.engine.specs.declared.Window.{Window}

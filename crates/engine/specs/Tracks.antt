@@ -2,7 +2,7 @@
 use mathlib.Core.Path.{_≡_}
 use Prim.Native.Nat.{ℕ}
 use lib.ListN.{length}
-use Rattle.event.specs.Window.{lineOf}
+use Rattle.window.specs.Window.{lineOf}
 use Rattle.history.specs.Count.{last, ifSome}
 use Rattle.history.specs.History.{History, is, stores, fences, storesLine, writesBackLine, logsByte}
 use Rattle.history.specs.Interval.{epochAt, lastStore, fenceAfter}

@@ -4,7 +4,6 @@ use event::Interval;
 use event::Range;
 use event::Record;
 use event::Refusal;
-use event::window;
 use events::Given;
 use tables::Run;
 ghost use mathlib.Core.Path.{_≡_};

@@ -5,7 +5,8 @@ use mathlib.Core.List.{List}
 use Prim.Native.Nat.{ℕ}
 use lib.ListN.{getD}
 use borrow.Author.Tests.{ne-eqb}
-use Rattle.codec.specs.Codec.{u16At, parsed}
+use Rattle.codec.specs.Codec.{u16At}
+use Rattle.records.specs.Record.{parsed}
 use Rattle.tables.specs.declared.Run.{Run}
 use Rattle.engine.specs.Call.{freshOf}
 use Rattle.engine_runs.specs.Runs.{afterRecord, afterFences, afterCall}

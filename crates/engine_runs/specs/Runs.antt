@@ -7,7 +7,8 @@ use lib.ListN.{getD}
 use Rattle.event.specs.declared.Event.the-variants.{Fence}
 use Rattle.event.specs.declared.Parsed.{Parsed}
 use Rattle.event.specs.declared.Parsed.the-variants.{Record, Refused}
-use Rattle.codec.specs.Codec.{u16At, parsed}
+use Rattle.codec.specs.Codec.{u16At}
+use Rattle.records.specs.Record.{parsed}
 use Rattle.tables.specs.declared.Run.{Run}
 use Rattle.events.specs.Give.{giveOf}
 use Rattle.engine.specs.Call.{freshOf}

@@ -5,7 +5,7 @@ use event::Parsed;
 use event::Record;
 use tables::Run;
 ghost use mathlib.Core.Path.{_≡_};
-ghost use Rattle.codec.specs.Codec.{parsed};
+ghost use Rattle.records.specs.Record.{parsed};
 ghost use Rattle.engine.specs.Call.{freshOf};
 ghost use Rattle.engine_runs.specs.Runs.{afterRecord, afterFences, afterCall};
 
@@ -23,7 +23,7 @@ fn fresh(lines: u16) -> Run
 fn give(run: Run, bytes: &[u8]) -> Run
     ensures { λ r. ⌜ r ≡ afterRecord run (parsed (now (bytes .entry))) ⌝ }
 {
-    match codec::read_record(bytes) {
+    match records::read_record(bytes) {
         Parsed::Refused(x) => {
             print::unread(x);
             run

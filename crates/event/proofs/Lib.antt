@@ -1,5 +1,4 @@
--- Laws that the proofs cite, and theorems on the definitions, which other crates may cite too.
+-- Laws that proofs of this crate and of others cite.
 pub mod Bools
 pub mod Laws
 pub mod Table
-pub mod Meaning

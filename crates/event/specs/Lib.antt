@@ -1,3 +1,2 @@
--- Definitions of the crate event, in document 01's order.
+-- Definitions of the crate event.
 pub mod Numbers
-pub mod Window

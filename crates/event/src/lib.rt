@@ -1,7 +1,5 @@
-// What the paper names, as types: ranges, events, records, findings, refusals and intervals. The modules give the
-// paper's numbers and the window's rules.
+// What the paper names, as types: ranges, events, records, findings, refusals and intervals.
 pub mod numbers; // the paper's number for each case
-pub mod window; // the window's size, its lines, and its limits on ranges
 
 // `length` bytes from `address` on.
 pub struct Range {

@@ -5,7 +5,7 @@ use Prim.Native.Nat.{ℕ, zero, suc}
 use native.Mathlib.Omega.{arith}
 use lib.Dec.{eqb, ltb}
 use borrow.Author.Tests.{ne-eqb, lt-ltb}
-use Rattle.event.specs.Window.{lineOf}
+use Rattle.window.specs.Window.{lineOf}
 use Rattle.tables.specs.declared.Run.{Run}
 use Rattle.tables.specs.Table.{entry, changed}
 use Rattle.tables.proofs.Table.{changed-same}

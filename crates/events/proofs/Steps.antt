@@ -11,7 +11,7 @@ use Rattle.event.specs.declared.Refusal.{Refusal}
 use Rattle.event.specs.declared.Check.{Check}
 use Rattle.event.specs.declared.Check.the-variants.{Passed, Refused as Breaks}
 use Rattle.event.specs.declared.Answer.the-variants.{Refused}
-use Rattle.event.specs.Window.{windowBytes}
+use Rattle.window.specs.Window.{windowBytes}
 use Rattle.history.specs.Refused.{refusalBy}
 use Rattle.history.specs.Found.{lowestIn, findingBy}
 use Rattle.tables.specs.declared.Run.{Run}

@@ -7,7 +7,7 @@ use Rattle.event.specs.declared.Event.{Event}
 use Rattle.event.specs.declared.Event.the-variants.{Store, WriteBack, Fence, Begin, Log, End, Persisted, Ordered}
 use Rattle.event.specs.declared.Finding.{Finding}
 use Rattle.event.specs.Numbers.{isNone}
-use Rattle.event.specs.Window.{windowBytes, lineOf}
+use Rattle.window.specs.Window.{windowBytes, lineOf}
 use Rattle.history.specs.History.{stores, fences, begins}
 use Rattle.history.specs.Transaction.{depthAfter}
 use Rattle.history.specs.Found.{atRisk}

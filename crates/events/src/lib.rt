@@ -16,7 +16,7 @@ ghost use mathlib.Core.List.{[]};
 ghost use Prim.Native.Nat.{_<_, _≤_};
 ghost use Rattle.event.specs.declared.Check.the-variants.{Passed};
 ghost use Rattle.event.specs.Numbers.{isNone};
-ghost use Rattle.event.specs.Window.{windowBytes, rangeEnd};
+ghost use Rattle.window.specs.Window.{windowBytes, rangeEnd};
 ghost use Rattle.history.specs.Refused.{refusalBy};
 ghost use Rattle.history.specs.Found.{lowestIn, findingBy};
 ghost use Rattle.tables.specs.Table.{changed, filledBytes, filledLines};

@@ -11,7 +11,7 @@ use borrow.Author.Tests.{eq-eqb, ne-eqb, leb-true, leb-false, lt-ltb, le-ltb, lt
 use Rattle.event.specs.declared.Range.{Range}
 use Rattle.event.specs.declared.Event.the-variants.{Store, WriteBack, End, Persisted, Ordered}
 use Rattle.event.specs.declared.Finding.the-variants.{None, Unlogged}
-use Rattle.event.specs.Window.{lineOf, lineCount}
+use Rattle.window.specs.Window.{lineOf, lineCount}
 use Rattle.history.specs.Found.{Pair, lowest, lowestIn, lowestPair, foundOr, unlogged, clean, writtenTwice, warnedLine, isOpen, atRisk, openedAt, closedBy, breaks, inOrder, findingBy}
 use Rattle.tables.specs.declared.Counts.{Counts}
 use Rattle.tables.specs.declared.Run.{Run}

@@ -6,7 +6,7 @@ use Prim.Native.Nat.{ℕ}
 use lib.Dec.{ltb, eqb}
 use Rattle.event.specs.declared.Finding.{Finding}
 use Rattle.event.specs.declared.Finding.the-variants.{None, Holds, Lost, Empty}
-use Rattle.event.specs.Window.{windowBytes}
+use Rattle.window.specs.Window.{windowBytes}
 use Rattle.history.specs.Found.{lowest, foundOr}
 use Rattle.tables.specs.declared.Counts.{Counts}
 use Rattle.tables.specs.Table.{entry}

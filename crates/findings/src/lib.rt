@@ -2,7 +2,6 @@
 use event::Event;
 use event::Finding;
 use event::Range;
-use event::window;
 use pairs::PairSearch;
 use searches::Search;
 use searches::Test;

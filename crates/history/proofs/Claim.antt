@@ -15,9 +15,9 @@ use Rattle.event.specs.declared.Event.the-variants.{Store, WriteBack, Fence, Be
 use Rattle.event.specs.declared.Record.{Record}
 use Rattle.event.specs.declared.Finding.{Finding}
 use Rattle.event.specs.declared.Finding.the-variants.{None, Lost, OutOfOrder, Empty}
-use Rattle.event.specs.Window.{windowBytes, lineOf, lineCount, covers}
+use Rattle.window.specs.Window.{windowBytes, lineOf, lineCount, covers}
 use Rattle.event.proofs.Bools.{contradiction, and-left, and-right, both}
-use Rattle.event.proofs.Meaning.{covered, covering}
+use Rattle.window.proofs.Meaning.{covered, covering}
 use Rattle.history.specs.Count.{last}
 use Rattle.history.specs.History.{History, is, stores, storesByte}
 use Rattle.history.specs.Interval.{lastStore}

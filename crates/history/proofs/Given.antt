@@ -13,7 +13,7 @@ use Rattle.event.specs.declared.Check.{Check}
 use Rattle.event.specs.declared.Check.the-variants.{Passed, Refused as Breaks}
 use Rattle.event.specs.declared.Answer.{Answer}
 use Rattle.event.specs.declared.Answer.the-variants.{Refused, Found}
-use Rattle.event.specs.Window.{windowBytes, isPast, rangesOf, anyRange}
+use Rattle.window.specs.Window.{windowBytes, isPast, rangesOf, anyRange}
 use Rattle.event.proofs.Bools.{contradiction, and-right}
 use Rattle.history.specs.History.{History, is, stores, coversByte, storesByte}
 use Rattle.history.specs.View.{ofHistory}

@@ -8,7 +8,7 @@ use native.Mathlib.Nat.{le-refl}
 use native.Mathlib.Decide.{decLe, ℕ-discrete as decEq}
 use lib.ListN.{length}
 use borrow.Author.Tests.{eq-eqb, ne-eqb}
-use Rattle.event.specs.Window.{lineOf}
+use Rattle.window.specs.Window.{lineOf}
 use Rattle.history.specs.History.{History, is, storesLine}
 use Rattle.history.specs.Interval.{lastStore}
 use Rattle.history.specs.Image.{Image, pieces, Forced, Survives, Allowed}

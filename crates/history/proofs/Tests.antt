@@ -8,7 +8,7 @@ use native.Mathlib.Decide.{decLe, ℕ-discrete as decEq}
 use lib.Dec.{eqb, leb, ltb}
 use lib.ListN.{length}
 use borrow.Author.Tests.{eq-eqb, ne-eqb, leb-true, le-leb, ltb-true, lt-ltb}
-use Rattle.event.specs.Window.{lineOf}
+use Rattle.window.specs.Window.{lineOf}
 use Rattle.event.proofs.Bools.{contradiction, fails, not-of, and-left, and-right, both}
 use Rattle.history.specs.History.{History, is, fences}
 use Rattle.history.specs.Interval.{epochAt, lastStore, fenceAfter, intervalOf}

@@ -11,7 +11,7 @@ use Rattle.event.specs.declared.Event.the-variants.{Store, WriteBack, Fence, Be
 use Rattle.event.specs.declared.Record.{Record}
 use Rattle.event.specs.declared.Finding.{Finding}
 use Rattle.event.specs.declared.Finding.the-variants.{Lost, Clean, WrittenTwice}
-use Rattle.event.specs.Window.{lineStart}
+use Rattle.window.specs.Window.{lineStart}
 use Rattle.history.specs.History.{History}
 use Rattle.history.specs.Interval.{lastStore}
 use Rattle.history.specs.Assertion.{Lowest, Persists, BrokenPair, HasPartner, Orders}

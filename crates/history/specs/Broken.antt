@@ -4,7 +4,7 @@ use mathlib.Core.Logic.{_≢_}
 use mathlib.Core.Bool.{cond}
 use Prim.Native.Nat.{ℕ, pred, min, _≤_}
 use lib.Dec.{eqb}
-use Rattle.event.specs.Window.{lineOf}
+use Rattle.window.specs.Window.{lineOf}
 use Rattle.history.specs.History.{History}
 use Rattle.history.specs.Interval.{lastStore}
 use Rattle.history.specs.Image.{Image, pieces, Survives, Allowed}

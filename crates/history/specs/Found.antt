@@ -10,7 +10,7 @@ use Rattle.event.specs.declared.Finding.{Finding}
 use Rattle.event.specs.declared.Finding.the-variants.{None, Holds, Lost, OutOfOrder, Unlogged, Clean, WrittenTwice, LoggedTwice, Empty}
 use Rattle.event.specs.declared.Interval.{Interval}
 use Rattle.event.specs.declared.Interval.the-variants.{None as NoInterval, Open, Closed}
-use Rattle.event.specs.Window.{windowBytes, lineOf, lineStart, lineCount}
+use Rattle.window.specs.Window.{windowBytes, lineOf, lineStart, lineCount}
 use Rattle.history.specs.View.{View}
 
 -- the lowest of the n numbers from x on that passes

@@ -10,7 +10,7 @@ use Rattle.event.specs.declared.Check.the-variants.{Passed, Refused as Breaks}
 use Rattle.event.specs.declared.Answer.{Answer}
 use Rattle.event.specs.declared.Answer.the-variants.{Refused, Found}
 use Rattle.event.specs.Numbers.{isNone}
-use Rattle.event.specs.Window.{linesCheck}
+use Rattle.window.specs.Window.{linesCheck}
 use Rattle.history.specs.History.{History}
 use Rattle.history.specs.View.{ofHistory}
 use Rattle.history.specs.Refused.{limitsBy, First, NoneBroken, refusalBy}

@@ -7,7 +7,7 @@ use lib.ListN.{length}
 use Rattle.event.specs.declared.Event.{Event}
 use Rattle.event.specs.declared.Record.{Record}
 use Rattle.event.specs.Numbers.{kindOf}
-use Rattle.event.specs.Window.{covers, touches, rangesOf, anyRange}
+use Rattle.window.specs.Window.{covers, touches, rangesOf, anyRange}
 
 abbrev pub History : Type 0
 History = List Record

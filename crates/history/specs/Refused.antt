@@ -9,7 +9,7 @@ use Rattle.event.specs.declared.Refusal.{Refusal}
 use Rattle.event.specs.declared.Refusal.the-variants.{EmptyRange, PastWindow, EventsExhausted, NoTransaction, TooDeep}
 use Rattle.event.specs.declared.Check.{Check}
 use Rattle.event.specs.declared.Check.the-variants.{Passed, Refused}
-use Rattle.event.specs.Window.{isEmpty, isPast, rangesOf, anyRange}
+use Rattle.window.specs.Window.{isEmpty, isPast, rangesOf, anyRange}
 use Rattle.history.specs.History.{begins, logs, ends}
 use Rattle.history.specs.View.{View}
 

@@ -5,13 +5,13 @@ use Prim.Native.Nat.{ℕ, _*_, _≤_}
 use native.Mathlib.Omega.{arith}
 use lib.ListN.{length, take, drop}
 use Rattle.codec.specs.Codec.{findingSize}
-use Rattle.trace.specs.declared.Trailer.{Trailer}
-use Rattle.trace.specs.declared.Opened.the-variants.{Known}
+use Rattle.trailer.specs.declared.Trailer.{Trailer}
+use Rattle.trailer.specs.declared.Opened.the-variants.{Known}
 use Rattle.trace.specs.declared.TraceCheck.{TraceCheck}
 use Rattle.trace.specs.declared.TraceCheck.the-variants.{Refused as RefusedAt, Passed}
-use Rattle.trace.specs.Trailer.{trailerOf, openedOf}
+use Rattle.trailer.specs.Trailer.{trailerOf, openedOf}
 use Rattle.trace.specs.Records.{recordPart, linesIn, recordsIn}
-use Rattle.trace.proofs.KnownBytes.{opened}
+use Rattle.trailer.proofs.Written.{opened}
 use Rattle.verdict.specs.Verdict.{areaSize, traceCheck, verdictOf, areaAfter}
 use Rattle.verdict.proofs.Order.{records-decide, window-fits}
 use Rattle.verdict.proofs.Outcome.{rejected, totalled, area-holds, all-counted}

@@ -1,9 +1,8 @@
 // The judge of a whole trace: its findings go into an area that the caller lends.
 use event::Refusal;
-use trace::Opened;
+use trailer::Opened;
 use trace::TraceCheck;
-use trace::opening;
-use trace::records;
+use trailer::opening;
 use verdict::Verdict;
 ghost use mathlib.Core.Path.{_≡_};
 ghost use mathlib.Core.List.{_++_};
@@ -85,7 +84,7 @@ pub fn judge(trace: &[u8], area: &mut [u8]) -> Verdict
                     record: 0,
                 };
             }
-            judge_part(records::part(trace, t.offset), t.count, t.lines, area)
+            judge_part(trace::part(trace, t.offset), t.count, t.lines, area)
         }
     }
 }

@@ -7,7 +7,7 @@ use Rattle.event.specs.declared.Event.{Event}
 use Rattle.event.specs.declared.Refusal.{Refusal}
 use Rattle.event.specs.declared.Refusal.the-variants.{EmptyRange, PastWindow}
 use Rattle.event.specs.declared.Check.the-variants.{Passed, Refused}
-use Rattle.event.specs.Window.{isEmpty, isPast, rangesOf, anyRange, limitsCheck, rangeCheck}
+use Rattle.window.specs.Window.{isEmpty, isPast, rangesOf, anyRange, limitsCheck, rangeCheck}
 use Rattle.history.specs.Refused.{refusalBy}
 use Rattle.limits.specs.Limits.{numbersOf, stateCheck}
 

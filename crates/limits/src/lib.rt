@@ -2,7 +2,6 @@
 use event::Check;
 use event::Event;
 use event::Refusal;
-use event::window;
 ghost use mathlib.Core.Path.{_≡_};
 ghost use mathlib.Core.Bool.{cond};
 ghost use lib.Dec.{eqb, leb};

@@ -22,9 +22,9 @@ use Rattle.history.specs.Refused.{firstBroken, NoneBroken, refusalBy}
 use Rattle.history.specs.Found.{findingBy}
 use Rattle.history.specs.Given.{answerOf, accepted, answers}
 use Rattle.limits.proofs.Passed.{none-broken}
-use Rattle.trace.specs.declared.Trailer.{Trailer}
+use Rattle.trailer.specs.declared.Trailer.{Trailer}
 use Rattle.trace.specs.declared.TraceCheck.the-variants.{Passed}
-use Rattle.trace.specs.Trailer.{mostBytes, trailerOf, endOf}
+use Rattle.trailer.specs.Trailer.{mostBytes, trailerOf, endOf}
 use Rattle.trace.specs.Records.{recordPart, eventsOf, linesIn, recordsIn, eventsIn}
 use Rattle.trace.specs.Checked.{checkFrom, checkAll}
 use Rattle.trace.proofs.RecordsNext.{records-counted}

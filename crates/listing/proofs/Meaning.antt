@@ -23,7 +23,7 @@ use Rattle.history.specs.Transaction.{depth}
 use Rattle.history.specs.Found.{lowest, lowestPair, findingBy}
 use Rattle.history.specs.Refused.{refusalBy}
 use Rattle.history.specs.Given.{answerOf, after, accepted, answers, counts, reported}
-use Rattle.trace.specs.Trailer.{sameBytes, trailerOf}
+use Rattle.trailer.specs.Trailer.{sameBytes, trailerOf}
 use Rattle.trace.specs.Records.{recordsOf, eventsOf}
 use Rattle.trace.specs.Checked.{checkFrom}
 use Rattle.trace.specs.Layout.{recordsBytes, traceBytes}

@@ -4,7 +4,7 @@ use mathlib.Core.List.{List}
 use mathlib.Core.Option.{Option, none, some}
 use Prim.Native.Nat.{ℕ}
 use lib.Dec.{ltb, eqb}
-use Rattle.event.specs.Window.{lineOf}
+use Rattle.window.specs.Window.{lineOf}
 use Rattle.history.specs.Found.{Pair}
 use Rattle.tables.specs.Table.{entry}
 use Rattle.pairs.specs.declared.PairSearch.{PairSearch}

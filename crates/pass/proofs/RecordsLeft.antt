@@ -9,7 +9,8 @@ use Rattle.event.specs.declared.Finding.{Finding}
 use Rattle.event.specs.declared.Answer.{Answer}
 use Rattle.event.specs.declared.Answer.the-variants.{Refused, Found}
 use Rattle.event.specs.declared.Parsed.{Parsed}
-use Rattle.codec.specs.Codec.{parsed, findingSize, recordSize}
+use Rattle.codec.specs.Codec.{findingSize}
+use Rattle.records.specs.Record.{parsed, recordSize}
 use Rattle.trace.specs.declared.TraceCheck.the-variants.{Refused as RefusedAt}
 use Rattle.trace.specs.Records.{recordsOf}
 use Rattle.trace.proofs.RecordsNext.{records-next}

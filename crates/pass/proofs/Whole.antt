@@ -15,7 +15,7 @@ use Rattle.event.specs.declared.Answer.the-variants.{Refused, Found}
 use Rattle.event.specs.declared.Parsed.{Parsed}
 use Rattle.event.specs.declared.Parsed.the-variants.{Record, Refused as Unread}
 use Rattle.codec.specs.Codec.{findingBytes, findingSize}
-use Rattle.event.specs.Window.{mostLines}
+use Rattle.window.specs.Window.{mostLines}
 use Rattle.history.specs.History.{History}
 use Rattle.history.specs.Interval.{epochAt}
 use Rattle.history.specs.View.{ofHistory}

@@ -3,7 +3,6 @@ use event::Answer;
 use event::Refusal;
 use tables::Counts;
 use trace::TraceCheck;
-use trace::records;
 ghost use mathlib.Core.Path.{_≡_};
 ghost use mathlib.Core.Bool.{cond};
 ghost use lib.Dec.{eqb};
@@ -52,7 +51,7 @@ pub fn judge_records(records: &[u8], count: u32, lines: u16, buffer: &mut [u8]) 
             &mut closed,
             &mut written,
             &mut backed,
-            records::record_at(records, i),
+            trace::record_at(records, i),
             12 * (i as usize),
             buffer,
         );

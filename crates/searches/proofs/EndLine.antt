@@ -5,7 +5,7 @@ use mathlib.Core.Option.{none}
 use Prim.Native.Nat.{ℕ, _*_, _≤_, _<_}
 use native.Mathlib.Omega.{arith}
 use borrow.Author.Tests.{lt-ltb, le-ltb}
-use Rattle.event.specs.Window.{lineOf, lineStart}
+use Rattle.window.specs.Window.{lineOf, lineStart}
 use Rattle.history.specs.Found.{lowest}
 use Rattle.searches.specs.declared.Search.{Search}
 use Rattle.searches.specs.declared.Test.the-variants.{OpenSince}

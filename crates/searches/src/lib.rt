@@ -1,13 +1,12 @@
 // Searches over the tables: the lowest byte or line that passes a test.
 use event::Range;
-use event::window;
 use tables::Counts;
 ghost use mathlib.Core.Path.{_≡_};
 ghost use mathlib.Core.Bool.{_&&_};
 ghost use Prim.Native.Nat.{_+_, _/_, _≤_};
 ghost use lib.Dec.{leb};
 ghost use lib.ListN.{length};
-ghost use Rattle.event.specs.Window.{windowBytes, lineOf, lineCount};
+ghost use Rattle.window.specs.Window.{windowBytes, lineOf, lineCount};
 ghost use Rattle.history.specs.Found.{lowest, lowestIn};
 ghost use Rattle.tables.specs.Table.{inTables};
 ghost use Rattle.tables.specs.View.{linesOf};

@@ -5,7 +5,7 @@ use Prim.Native.Nat.{ℕ, min}
 use lib.Dec.{eqb, ltb}
 use Rattle.event.specs.declared.Interval.{Interval}
 use Rattle.event.specs.declared.Interval.the-variants.{None, Open, Closed}
-use Rattle.event.specs.Window.{mostLines, lineOf}
+use Rattle.window.specs.Window.{mostLines, lineOf}
 use Rattle.history.specs.Count.{ifSome}
 use Rattle.history.specs.View.{View}
 use Rattle.limits.specs.Limits.{numbersOf}

@@ -5,7 +5,7 @@ use Prim.Native.Nat.{ℕ, _<_}
 use native.Mathlib.Omega.{arith}
 use lib.ListN.{take, getD}
 use lib.Seq.{getD-take}
-use Rattle.codec.specs.Codec.{parsed, recordSize}
+use Rattle.records.specs.Record.{recordSize, parsed}
 
 -- the bytes that follow them change nothing
 pub parsed-first : (s : List ℕ) → parsed (take recordSize s) ≡ parsed s

@@ -8,29 +8,16 @@ use lib.ListN.{length, length-append}
 use borrow.Author.Tests.{le-ltb, eq-eqb}
 use Rattle.event.specs.declared.Record.{Record as Event}
 use Rattle.event.specs.declared.Parsed.the-variants.{Record}
-use Rattle.event.specs.Window.{badLines}
-use Rattle.codec.proofs.Meaning.{u16-round-trip}
-use Rattle.codec.proofs.RoundTrip.{read-back}
-use Rattle.trace.specs.declared.Trailer.{Trailer}
-use Rattle.trace.specs.declared.Opened.the-variants.{Known}
-use Rattle.trace.specs.Trailer.{trailerSize, mostBytes, u32At, trailerBytes, trailerFrom, trailerOf, sameBytes, openedOf}
-use Rattle.codec.specs.Codec.{recordSize}
+use Rattle.window.specs.Window.{badLines}
+use Rattle.records.specs.Record.{recordSize}
+use Rattle.records.proofs.RoundTrip.{read-back}
+use Rattle.trailer.specs.declared.Trailer.{Trailer}
+use Rattle.trailer.specs.declared.Opened.the-variants.{Known}
+use Rattle.trailer.specs.Trailer.{trailerSize, mostBytes, trailerBytes, trailerFrom, trailerOf, trailerWith, sameBytes, openedOf}
+use Rattle.trailer.proofs.Parts.{last-part, middle-part}
+use Rattle.trailer.proofs.Written.{trailer, trailer-read-back}
 use Rattle.trace.specs.Records.{recordPart, recordsOf, eventsOf, linesIn, recordsIn, eventsIn}
-use Rattle.trace.specs.Layout.{u32Bytes, recordsBytes, trailerWith, traceBytes}
-use Rattle.trace.proofs.Parts.{last-part, middle-part}
-
--- a u32 written as four bytes is read back
-u32-round-trip : (n : ℕ) → u32At (u32Bytes n) 0 ≡ n
-u32-round-trip n = omega arith
-
--- a trailer of these fields, whose zero field is 0
-abbrev pub trailer : (offset count lines : ℕ) → Trailer
-trailer offset count lines = record { offset = offset; count = count; lines = lines; zero = 0 }
-
--- its bytes are read back
-trailer-read-back : (offset count lines : ℕ) → trailerFrom (trailerWith offset count lines) ≡ trailer offset count lines
-trailer-read-back offset count lines =
-    λ i. record { offset = u32-round-trip offset i; count = u32-round-trip count i; lines = u16-round-trip lines i; zero = 0 }
+use Rattle.trace.specs.Layout.{recordsBytes, traceBytes}
 
 -- records have 12 bytes each
 records-length : (events : List Event) → length (recordsBytes events) ≡ recordSize * length events

@@ -6,7 +6,7 @@ use native.Mathlib.Omega.{arith}
 use lib.ListN.{length, drop}
 use lib.Seq.{drop-drop}
 use Rattle.event.specs.declared.Parsed.{Parsed}
-use Rattle.codec.specs.Codec.{parsed, recordSize}
+use Rattle.records.specs.Record.{recordSize, parsed}
 use Rattle.trace.specs.Records.{recordsOf}
 use Rattle.trace.proofs.FirstBytes.{parsed-first}
 

@@ -5,8 +5,8 @@ use lib.ListN.{length, take, drop}
 use Rattle.event.specs.declared.Record.{Record as Event}
 use Rattle.event.specs.declared.Parsed.{Parsed}
 use Rattle.event.specs.declared.Parsed.the-variants.{Record, Refused}
-use Rattle.codec.specs.Codec.{parsed, recordSize}
-use Rattle.trace.specs.Trailer.{trailerSize, trailerOf}
+use Rattle.records.specs.Record.{recordSize, parsed}
+use Rattle.trailer.specs.Trailer.{trailerSize, trailerOf}
 
 -- the bytes from the offset up to the trailer; what precedes the offset is free
 abbrev pub recordPart : ℕ → List ℕ → List ℕ

@@ -3,7 +3,7 @@
 // findings.
 use libc::STDIN_FILENO;
 use libc::STDOUT_FILENO;
-use trace::opening;
+use trailer::opening;
 ghost use mathlib.Core.Path.{_≡_};
 ghost use lib.ListN.{length};
 ghost use Rattle.io.specs.Counts.{Counts};
@@ -13,7 +13,7 @@ ghost use Rattle.io.specs.Counts.{Counts};
 fn read_part(header: &[u8], at: u8, buf: &mut [u8]) -> usize
     ensures { λ r. ⌜ Counts r (now (buf .exit)) ⌝ }
 {
-    let len = opening::u32_at(header, at) as usize;
+    let len = codec::u32_at(header, at) as usize;
     if buf.len() < len {
         return 0;
     }

@@ -11,18 +11,18 @@ use Rattle.event.specs.declared.Refusal.{Refusal}
 use Rattle.event.specs.declared.Refusal.the-variants.{AreaTooShort}
 use Rattle.event.specs.declared.Check.{Check}
 use Rattle.event.specs.declared.Check.the-variants.{Passed as Fits, Refused as Breaks}
-use Rattle.event.specs.Window.{mostLines}
+use Rattle.window.specs.Window.{mostLines}
 use Rattle.history.specs.Refused.{Limit, firstBroken, NoneBroken}
 use Rattle.history.proofs.Given.{none-broken}
-use Rattle.trace.specs.declared.Trailer.{Trailer}
-use Rattle.trace.specs.declared.Opened.the-variants.{Refused as NotOpened, Known}
+use Rattle.trailer.specs.declared.Trailer.{Trailer}
+use Rattle.trailer.specs.declared.Opened.the-variants.{Refused as NotOpened, Known}
 use Rattle.trace.specs.declared.TraceCheck.{TraceCheck}
 use Rattle.trace.specs.declared.TraceCheck.the-variants.{Passed, Refused as RefusedAt}
-use Rattle.trace.specs.Trailer.{mostBytes, trailerOf, endOf, fileLimits, openedFor, openedOf}
+use Rattle.trailer.specs.Trailer.{mostBytes, trailerOf, endOf, fileLimits, openedFor, openedOf}
 use Rattle.trace.specs.Records.{linesIn, recordsIn}
 use Rattle.trace.specs.Checked.{unlessBroken, checkAll}
-use Rattle.trace.proofs.Lines.{window-lines, few-lines}
-use Rattle.trace.proofs.KnownBytes.{opened}
+use Rattle.trailer.proofs.Lines.{window-lines, few-lines}
+use Rattle.trailer.proofs.Written.{opened}
 use Rattle.verdict.specs.Verdict.{areaSize, areaLimits, traceLimits, traceCheck}
 use Rattle.codec.specs.Codec.{findingSize}
 

@@ -7,7 +7,7 @@ use Rattle.event.specs.declared.Refusal.{Refusal}
 use Rattle.history.specs.Interval.{epochAt}
 use Rattle.history.specs.Given.{reported}
 use Rattle.trace.specs.declared.TraceCheck.the-variants.{Refused as RefusedAt, Passed}
-use Rattle.trace.specs.Trailer.{trailerOf}
+use Rattle.trailer.specs.Trailer.{trailerOf}
 use Rattle.trace.specs.Records.{recordPart, recordsIn, eventsIn}
 use Rattle.trace.proofs.RecordsNext.{records-counted}
 use Rattle.verdict.specs.declared.Verdict.the-variants.{Refused, Accepted}

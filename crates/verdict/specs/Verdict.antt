@@ -15,7 +15,7 @@ use Rattle.history.specs.Refused.{Limit, limit, firstBroken}
 use Rattle.history.specs.Given.{accepted, answers, reported}
 use Rattle.trace.specs.declared.TraceCheck.{TraceCheck}
 use Rattle.trace.specs.declared.TraceCheck.the-variants.{Passed, Refused as RefusedAt}
-use Rattle.trace.specs.Trailer.{trailerOf, fileLimits}
+use Rattle.trailer.specs.Trailer.{trailerOf, fileLimits}
 use Rattle.trace.specs.Records.{linesIn, recordsIn, eventsIn}
 use Rattle.trace.specs.Checked.{unlessBroken, checkAll}
 use Rattle.verdict.specs.declared.Verdict.{Verdict}

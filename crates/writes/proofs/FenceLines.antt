@@ -6,7 +6,7 @@ use Prim.Native.Nat.{ℕ, _+_, _-_, _*_, _≤_, _<_}
 use native.Mathlib.Omega.{arith}
 use borrow.Author.Tests.{le-leb, lt-ltb, le-ltb}
 use lib.Dec.{leb, ltb}
-use Rattle.event.specs.Window.{windowBytes, lineOf, lineStart}
+use Rattle.window.specs.Window.{windowBytes, lineOf, lineStart}
 use Rattle.history.specs.Found.{lowest}
 use Rattle.searches.specs.declared.Test.the-variants.{Since}
 use Rattle.tables.specs.Table.{entry, changed}

@@ -3,7 +3,7 @@ use mathlib.Core.Bool.{cond, not, _&&_}
 use mathlib.Core.List.{List}
 use Prim.Native.Nat.{ℕ}
 use lib.Dec.{ltb, eqb}
-use Rattle.event.specs.Window.{lineOf}
+use Rattle.window.specs.Window.{lineOf}
 use Rattle.tables.specs.Table.{entry}
 
 -- the closing epoch of a byte after a fence that begins this epoch, where its line was last written back at `back`

@@ -1,13 +1,12 @@
 // Writes to the tables.
 use event::Range;
-use event::window;
 use searches::Test;
 use std::num;
 use tables::Counts;
 ghost use mathlib.Core.Path.{_≡_};
 ghost use Prim.Native.Nat.{_+_, _-_, _<_, _≤_};
 ghost use lib.ListN.{length};
-ghost use Rattle.event.specs.Window.{windowBytes, rangeEnd};
+ghost use Rattle.window.specs.Window.{windowBytes, rangeEnd};
 ghost use Rattle.tables.specs.Table.{entry, changed, filled, filledBytes, filledLines, inTables};
 ghost use Rattle.tables.specs.View.{linesOf};
 ghost use Rattle.writes.specs.Fenced.{closedNow, fenced};

@@ -5,7 +5,7 @@ use mathlib.Core.List.{List, [], _∷_}
 use Prim.Native.Nat.{_≤_, _<_}
 use borrow.Author.Needs.{needs}
 use Rattle.event.specs.declared.Range.{Range}
-use Rattle.event.specs.Window.{rangeEnd, rangesOf}
+use Rattle.window.specs.Window.{rangeEnd, rangesOf}
 use Rattle.limits.proofs.Passed.{begin-below, end-inside}
 use Rattle.tables.specs.declared.Run.{Run}
 use Rattle.tables.specs.View.{linesOf, runOf}

@@ -10,7 +10,7 @@ use lib.ListN.{length}
 use Rattle.event.specs.declared.Event.{Event}
 use Rattle.event.specs.declared.Interval.{Interval}
 use Rattle.event.specs.declared.Interval.the-variants.{None, Open, Closed}
-use Rattle.event.specs.Window.{lineOf}
+use Rattle.window.specs.Window.{lineOf}
 use Rattle.history.specs.Count.{first}
 use Rattle.history.specs.History.{History, is, fences, storesByte, writesBackLine}
 use Rattle.history.specs.Interval.{epochAt, lastStore, backAfter, fenceAfter, intervalOf}

@@ -14,7 +14,7 @@ use Rattle.event.specs.declared.Record.{Record}
 use Rattle.event.specs.declared.Refusal.{Refusal}
 use Rattle.event.specs.declared.Refusal.the-variants.{EmptyRange, PastWindow, EventsExhausted, NoTransaction, TooDeep}
 use Rattle.event.specs.Numbers.{kindOf, numberOf}
-use Rattle.event.specs.Window.{isEmpty, isPast, rangesOf, anyRange}
+use Rattle.window.specs.Window.{isEmpty, isPast, rangesOf, anyRange}
 use Rattle.event.proofs.Bools.{contradiction, and-left, and-right, both, or-cases, or-left, or-right}
 use Rattle.history.specs.History.{History, begins, logs, ends}
 use Rattle.history.specs.Transaction.{depth}

@@ -3,8 +3,8 @@
 use borrow.Author.Needs.{needs}
 use mathlib.Core.Path.{_≡_, _∙_}
 use Rattle.event.proofs.Laws.{equal-by}
-use Rattle.trace.specs.declared.Opened.the-variants.{Known}
-use Rattle.trace.specs.Trailer.{openedOf}
+use Rattle.trailer.specs.declared.Opened.the-variants.{Known}
+use Rattle.trailer.specs.Trailer.{openedOf}
 use Rattle.verdict.proofs.Order.{refused-trailer, refused-area, records-fit}
 use Rattle.verdict.proofs.Outcome.{rejected}
 use Rattle.judge.specs.Ends.{bufferFor}

@@ -1,6 +1,6 @@
 -- `listing::put_listing` meets its contract: its parts are put one after another. Assumes nothing.
 use mathlib.Core.Path.{ap, _∙_}
-use Rattle.trace.specs.declared.Trailer.{Trailer}
+use Rattle.trailer.specs.declared.Trailer.{Trailer}
 use Rattle.trace.specs.Records.{linesIn}
 use Rattle.text.specs.Text.{out}
 use Rattle.text.proofs.Puts.{three}

@@ -3,7 +3,7 @@
 use mathlib.Core.Path.{ap}
 use native.Mathlib.Omega.{arith}
 use borrow.Author.Needs.{needs}
-use Rattle.event.specs.Window.{rangeEnd}
+use Rattle.window.specs.Window.{rangeEnd}
 use Rattle.searches.proofs.first_open.Statement.{statement}
 use Rattle.searches.proofs.first_open.Tie as tie
 

@@ -6,7 +6,7 @@ use Prim.Native.Nat.{_+_, _-_, _*_, _≤_}
 use native.Mathlib.Omega.{arith}
 use borrow.Author.Needs.{needs}
 use borrow.Author.Tests.{lt-ltb}
-use Rattle.event.specs.Window.{windowBytes}
+use Rattle.window.specs.Window.{windowBytes}
 use Rattle.searches.specs.Tests.{lostAtEnd}
 use Rattle.searches.proofs.EndLine.{line-unstored, line-searched}
 use Rattle.searches.proofs.FromFront.{left, found-nothing}

@@ -1,0 +1,88 @@
+-- What the definitions of specs/ say, in plain words, so that a wrong definition is refused here.
+-- Assumes nothing.
+use mathlib.Core.Path.{_≡_, refl}
+use mathlib.Core.Bool.{Bool, true, false, not, _&&_}
+use mathlib.Core.Logic.{_≢_}
+use Prim.Native.Nat.{ℕ, _+_, _*_, _-_, _≤_, _<_, max}
+use native.Mathlib.Omega.{arith}
+use lib.Dec.{leb, ltb}
+use borrow.Author.Tests.{not-true, eqb-false, ne-eqb, leb-true, le-leb, ltb-true, ltb-false, lt-ltb}
+use Rattle.event.specs.declared.Range.{Range}
+use Rattle.window.specs.Window.{windowBytes, lineOf, lineStart, rangeEnd, covers, isEmpty, touches, lineCount, isPast}
+use Rattle.event.proofs.Bools.{and-left, and-right, both}
+
+-- A range covers the bytes from its address on that lie before its end.
+pub record Covered (r : Range) (byte : ℕ) : Type 0 where
+  pub from : r .address ≤ byte
+  pub to : byte < rangeEnd r
+
+pub covered : (r : Range) (byte : ℕ) → covers r byte ≡ true → Covered r byte
+covered r byte e =
+    record {
+      from = leb-true (r .address) byte (and-left (leb (r .address) byte) (ltb byte (rangeEnd r)) e);
+      to = ltb-true byte (rangeEnd r) (and-right (leb (r .address) byte) (ltb byte (rangeEnd r)) e);
+    }
+
+pub covering : (r : Range) (byte : ℕ) → r .address ≤ byte → byte < rangeEnd r → covers r byte ≡ true
+covering r byte from to = both (le-leb (r .address) byte from) (lt-ltb byte (rangeEnd r) to)
+
+-- A range touches the lines from that of its first byte to that of its last.
+pub record Touched (r : Range) (line : ℕ) : Type 0 where
+  pub some : r .length ≢ 0
+  pub from : lineOf (r .address) ≤ line
+  pub to : line ≤ lineOf (rangeEnd r - 1)
+
+pub touched : (r : Range) (line : ℕ) → touches r line ≡ true → Touched r line
+touched r line e =
+    let low = leb (lineOf (r .address)) line in
+    let high = leb line (lineOf (rangeEnd r - 1)) in
+    let first = and-left (not (isEmpty r) && low) high e in
+    record {
+      some = eqb-false (r .length) 0 (not-true (isEmpty r) (and-left (not (isEmpty r)) low first));
+      from = leb-true (lineOf (r .address)) line (and-right (not (isEmpty r)) low first);
+      to = leb-true line (lineOf (rangeEnd r - 1)) (and-right (not (isEmpty r) && low) high e);
+    }
+
+pub touching : (r : Range) (line : ℕ) → Touched r line → touches r line ≡ true
+touching r line x = rw (ne-eqb (r .length) 0 (x .some), le-leb (lineOf (r .address)) line (x .from)) (le-leb line (lineOf (rangeEnd r - 1)) (x .to))
+
+-- Every line that a range touches holds one of its bytes.
+pub touches-a-byte : (r : Range) (line : ℕ) → touches r line ≡ true → (byte : ℕ) × (covers r byte ≡ true) × (lineOf byte ≡ line)
+touches-a-byte r line e =
+    let x : Touched r line = touched r line e in
+    let byte : ℕ = max (r .address) (line * 64) in
+    (byte, covering r byte (omega arith) (omega (arith, x .some, x .from, x .to)), omega (arith, x .from))
+
+-- The line of each byte that a range covers is touched.
+pub byte-touches : (r : Range) (byte : ℕ) → covers r byte ≡ true → touches r (lineOf byte) ≡ true
+byte-touches r byte e =
+    let x : Covered r byte = covered r byte e in
+    touching r (lineOf byte) (record { some = λ z. omega (arith, x .from, x .to, z); from = omega (arith, x .from); to = omega (arith, x .to) })
+
+-- They are lineCount lines.
+pub touched-below : (r : Range) (line : ℕ) → touches r line ≡ true → line < lineOf (r .address) + lineCount r
+touched-below r line e =
+    let x : Touched r line = touched r line e in
+    rw (ne-eqb (r .length) 0 (x .some)) (omega (arith, x .from, x .to))
+
+pub below-touched : (r : Range) (line : ℕ) → lineOf (r .address) ≤ line → line < lineOf (r .address) + lineCount r → touches r line ≡ true
+below-touched r line from to = go (isEmpty r) refl
+  where
+    go : (b : Bool) → isEmpty r ≡ b → touches r line ≡ true
+    go true e = absurd (omega (arith, from, rw e at to))
+    go false e = touching r line (record { some = eqb-false (r .length) 0 e; from = from; to = omega (arith, from, rw e at to) })
+
+-- A line starts at its first byte.
+pub line-start-is-first : (line : ℕ) → line < 64 → (lineOf (lineStart line) ≡ line) × ((byte : ℕ) → lineOf byte ≡ line → lineStart line ≤ byte)
+line-start-is-first line h = simp (lt-ltb line 64 h) (omega arith)
+
+-- A range that does not run past the window covers only bytes of the window.
+pub inside-window : (lines : ℕ) (r : Range) → isPast lines r ≡ false → (byte : ℕ) → covers r byte ≡ true → byte < windowBytes lines
+inside-window lines r inside byte e = omega (arith, covered r byte e .to, ltb-false (windowBytes lines) (rangeEnd r) inside)
+
+-- A range that runs past the window and is not empty covers a byte that the window does not have.
+pub past-window : (lines : ℕ) (r : Range) → isPast lines r ≡ true → isEmpty r ≡ false → (byte : ℕ) × (covers r byte ≡ true) × (windowBytes lines ≤ byte)
+past-window lines r past some =
+    let far = ltb-true (windowBytes lines) (rangeEnd r) past in
+    let long = eqb-false (r .length) 0 some in
+    (rangeEnd r - 1, covering r (rangeEnd r - 1) (omega (arith, long)) (omega arith), omega (arith, far))

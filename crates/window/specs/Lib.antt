@@ -1,0 +1,2 @@
+-- Definitions of the window.
+pub mod Window

@@ -1,0 +1,86 @@
+-- The window: its size, its lines, what a range covers and which lines it touches, and the limits 4, 8 and 9.
+use mathlib.Core.Bool.{Bool, false, cond, not, _&&_, _||_}
+use mathlib.Core.List.{List, [], _∷_}
+use Prim.Native.Nat.{ℕ, _+_, _*_, _/_, _-_}
+use lib.Dec.{leb, ltb, eqb}
+use Rattle.event.specs.declared.Range.{Range}
+use Rattle.event.specs.declared.Event.{Event}
+use Rattle.event.specs.declared.Event.the-variants.{Store, WriteBack, Fence, Begin, Log, End, Persisted, Ordered}
+use Rattle.event.specs.declared.Refusal.the-variants.{BadLines, EmptyRange, PastWindow}
+use Rattle.event.specs.declared.Check.{Check}
+use Rattle.event.specs.declared.Check.the-variants.{Passed, Refused}
+
+-- a line has 64 bytes, and a window 1 to 64 lines
+abbrev pub lineBytes : ℕ
+lineBytes = 64
+
+abbrev pub mostLines : ℕ
+mostLines = 64
+
+-- the window's size in bytes: addresses count from its start
+abbrev pub windowBytes : ℕ → ℕ
+windowBytes lines = lines * lineBytes
+
+-- the line that holds a byte
+abbrev pub lineOf : ℕ → ℕ
+lineOf byte = byte / lineBytes
+
+-- the start address of each line of the largest window, and 0 beyond it
+abbrev pub lineStart : ℕ → ℕ
+lineStart line = cond (ltb line mostLines) (line * lineBytes) 0
+
+-- a range ends before the byte at this address
+abbrev pub rangeEnd : Range → ℕ
+rangeEnd r = r .address + r .length
+
+-- the range covers the byte
+abbrev pub covers : Range → ℕ → Bool
+covers r byte = leb (r .address) byte && ltb byte (rangeEnd r)
+
+-- the range has no byte
+abbrev pub isEmpty : Range → Bool
+isEmpty r = eqb (r .length) 0
+
+-- the range touches the line: the line holds one of its bytes
+abbrev pub touches : Range → ℕ → Bool
+touches r line = not (isEmpty r) && leb (lineOf (r .address)) line && leb line (lineOf (rangeEnd r - 1))
+
+-- how many lines the range touches, from that of its first byte on
+abbrev pub lineCount : Range → ℕ
+lineCount r = cond (isEmpty r) 0 (lineOf (rangeEnd r - 1) + 1 - lineOf (r .address))
+
+-- the range runs past the window
+abbrev pub isPast : ℕ → Range → Bool
+isPast lines r = ltb (windowBytes lines) (rangeEnd r)
+
+-- the ranges that an event uses
+abbrev pub rangesOf : Event → List Range
+rangesOf (Store a) = a ∷ []
+rangesOf (WriteBack a) = a ∷ []
+rangesOf Fence = []
+rangesOf Begin = []
+rangesOf (Log a) = a ∷ []
+rangesOf End = []
+rangesOf (Persisted a) = a ∷ []
+rangesOf (Ordered a b) = a ∷ b ∷ []
+
+-- the test passes at one of the ranges
+abbrev pub anyRange : (Range → Bool) → List Range → Bool
+anyRange p [] = false
+anyRange p (r ∷ rs) = p r || anyRange p rs
+
+-- the limits 8 and 9, in this order
+abbrev pub limitsCheck : Bool → Bool → Check
+limitsCheck empty past = cond empty (Refused EmptyRange) (cond past (Refused PastWindow) Passed)
+
+-- 8: a used length is 0; 9: a used range runs past the window
+abbrev pub rangeCheck : ℕ → Event → Check
+rangeCheck lines e = limitsCheck (anyRange isEmpty (rangesOf e)) (anyRange (isPast lines) (rangesOf e))
+
+-- lines outside 1 to 64
+abbrev pub badLines : ℕ → Bool
+badLines lines = eqb lines 0 || ltb mostLines lines
+
+-- 4: so many lines are no window
+abbrev pub linesCheck : ℕ → Check
+linesCheck lines = cond (badLines lines) (Refused BadLines) Passed
