@@ -1,4 +1,4 @@
-// The finding of each kind of event, from the tables before it.
+// The finding of each kind of event, from the tables before it. A range stands for the part of it that the tables have.
 use event::Event;
 use event::Finding;
 use event::Range;

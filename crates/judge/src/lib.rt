@@ -1,7 +1,7 @@
 // The judge of a whole trace: its findings go into an area that the caller lends.
 use event::Refusal;
-use trailer::Opened;
 use trace::TraceCheck;
+use trailer::Opened;
 use trailer::opening;
 use verdict::Verdict;
 ghost use mathlib.Core.Path.{_≡_};

@@ -1,7 +1,7 @@
 // The text that the program prints for a trace.
 use event::numbers;
-use verdict::Verdict;
 use trailer::opening;
+use verdict::Verdict;
 ghost use mathlib.Core.Path.{_≡_};
 ghost use mathlib.Core.List.{_++_};
 ghost use Prim.Native.Nat.{_≤_};

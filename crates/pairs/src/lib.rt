@@ -1,4 +1,5 @@
-// Searches over pairs of bytes: the lowest that a crash may keep, and the lowest that it loses with it.
+// The search over pairs of bytes: the lowest that a crash may keep, and the lowest that it loses with it. A range stands for the part of
+// it that the tables have.
 use event::Range;
 ghost use mathlib.Core.Path.{_≡_};
 ghost use Prim.Native.Nat.{_+_, _/_, _≤_, _<_};

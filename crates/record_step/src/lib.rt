@@ -1,8 +1,8 @@
 // One record given to tables that the caller lends, and its finding put into a buffer.
 use event::Answer;
 use event::Parsed;
-use tables::Counts;
 use events::Stepped;
+use tables::Counts;
 ghost use mathlib.Core.Path.{_≡_};
 ghost use Rattle.tables.specs.View.{runOf};
 ghost use Rattle.record_step.specs.Step.{placed, placedFor, stage, recordAnswer, recordGiven};

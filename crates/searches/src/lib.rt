@@ -1,4 +1,5 @@
-// Searches over the tables: the lowest byte or line that passes a test.
+// Searches over tables that the caller lends: the lowest byte or line that passes a test. A range stands for the part of it that the
+// tables have.
 use event::Range;
 use tables::Counts;
 ghost use mathlib.Core.Path.{_≡_};

@@ -3,7 +3,6 @@
 // findings.
 use libc::STDIN_FILENO;
 use libc::STDOUT_FILENO;
-use trailer::opening;
 ghost use mathlib.Core.Path.{_≡_};
 ghost use lib.ListN.{length};
 ghost use Rattle.io.specs.Counts.{Counts};

@@ -1,4 +1,4 @@
-// Writes to the tables.
+// Writes to tables that the caller lends. A range stands for the part of it that the tables have.
 use event::Range;
 use searches::Test;
 use std::num;

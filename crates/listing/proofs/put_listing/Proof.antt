@@ -1,5 +1,5 @@
 -- `listing::put_listing` meets its contract: its parts are put one after another. Assumes nothing.
-use mathlib.Core.Path.{ap, _∙_}
+use mathlib.Core.Path.{ap}
 use Rattle.trailer.specs.declared.Trailer.{Trailer}
 use Rattle.trace.specs.Records.{linesIn}
 use Rattle.text.specs.Text.{out}
