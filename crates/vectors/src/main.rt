@@ -19,8 +19,8 @@ fn read_part(header: &[u8], at: u8, buf: &mut [u8]) -> usize
     io::read_full(STDIN_FILENO, &mut buf[..len])
 }
 
-// `differs: refused/8-length-0-last`, or nothing where an entry is the same.
-fn print_entry(name: &[u8], same: bool) {
+// `differs: refused/8-length-0-last`, or nothing where the entry is the same.
+fn print_differs(name: &[u8], same: bool) {
     if same {
         return;
     }
@@ -71,7 +71,7 @@ fn entry(header: &[u8], answers: &mut [u32], kinds: &mut [u32]) -> bool {
         answers,
         kinds,
     );
-    print_entry(&name[..n], same);
+    print_differs(&name[..n], same);
     same
 }
 

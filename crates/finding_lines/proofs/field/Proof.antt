@@ -1,5 +1,4 @@
 -- `finding_lines::field` meets its contract: its parts are put one after another. Assumes nothing.
-use borrow.Author.Needs.{needs}
 use Rattle.text.specs.Text.{ascii, decimal, out}
 use Rattle.finding_lines.specs.Lines.{field}
 use Rattle.text.proofs.Puts.{two}

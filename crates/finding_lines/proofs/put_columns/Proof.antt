@@ -1,5 +1,4 @@
 -- `finding_lines::put_columns` meets its contract: its parts are put one after another. Assumes nothing.
-use borrow.Author.Needs.{needs}
 use Rattle.text.specs.Text.{ascii, decimal, out}
 use Rattle.finding_lines.specs.Lines.{nameOf, field, values, columns}
 use Rattle.text.proofs.Puts.{six}

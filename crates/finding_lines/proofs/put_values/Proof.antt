@@ -1,5 +1,4 @@
 -- `finding_lines::put_values` meets its contract: its parts are put one after another. Assumes nothing.
-use borrow.Author.Needs.{needs}
 use Rattle.text.specs.Text.{out}
 use Rattle.finding_lines.specs.Lines.{field, values}
 use Rattle.text.proofs.Puts.{four}

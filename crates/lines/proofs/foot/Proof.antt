@@ -1,5 +1,4 @@
 -- `lines::foot` meets its contract: its parts are put one after another. Assumes nothing.
-use borrow.Author.Needs.{needs}
 use Rattle.text.specs.Text.{ascii, decimal, out}
 use Rattle.lines.specs.Lines.{footLine}
 use Rattle.text.proofs.Puts.{three}

@@ -29,12 +29,12 @@ array-share-prefix-name : tie.Need-array-share-prefix-name
 array-share-prefix-name c =
     c .before .before .before .before .before .before .before .before .before .before .before .before .before .before .before .before .read-part .ensures .0
 
-slice-aggregate-print-entry : tie.Need-slice-aggregate-print-entry
-slice-aggregate-print-entry c =
+slice-aggregate-print-differs : tie.Need-slice-aggregate-print-differs
+slice-aggregate-print-differs c =
     c .before .before .before .before .before .before .before .before .before .before .before .before .before .before .before .before .before .read-part .ensures .1
 
-print-entry-requires : tie.Need-print-entry-requires
-print-entry-requires c κs = tt
+print-differs-requires : tie.Need-print-differs-requires
+print-differs-requires c κs = tt
 
 same-length : tie.Need-same-length
 same-length c = c .before .before .before .before .before .before .before .before .before .before .run-parts .kept .1 .1 .1 .1 .1 .0
@@ -57,8 +57,8 @@ entry-spec =
     slice-aggregate-run-parts-4
     run-parts-requires
     array-share-prefix-name
-    slice-aggregate-print-entry
-    print-entry-requires
+    slice-aggregate-print-differs
+    print-differs-requires
     same-length
     same-length-2
     returns)

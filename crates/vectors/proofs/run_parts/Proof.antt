@@ -7,8 +7,12 @@ use Rattle.vectors.proofs.run_parts.Statement.{statement}
 use Rattle.vectors.proofs.run_parts.Tie as tie
 
 -- the area is as long as the buffer that the second part was read into
-fits : (c : tie.After-read-part2) → Counts (c .read-part2 .result) (c .before .before .before .before .before .before .before .before .before .before .before .before .before .args .area .now)
-fits c = let k = c .before .before .before .before .before .before .before .before .before .before .before .before .before in counts-other (c .read-part2 .last .1 .1 .0) (k .args .area .now) (c .read-part2 .kept .1 .1 .0 ∙ sym (k .pre)) (c .read-part2 .ensures)
+fits : (c : tie.After-read-part2) →
+    Counts (c .read-part2 .result) (c .before .before .before .before .before .before .before .before .before .before .before .before .before .args .area .now)
+fits c =
+    let k = c .before .before .before .before .before .before .before .before .before .before .before .before .before in
+    let r = c .read-part2 in
+    counts-other (r .last .1 .1 .0) (k .args .area .now) (r .kept .1 .1 .0 ∙ sym (k .pre)) (r .ensures)
 
 read-part-requires : tie.Need-read-part-requires
 read-part-requires c κs = tt
