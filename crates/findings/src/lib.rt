@@ -130,11 +130,13 @@ pub fn of_ordered(
         PairSearch::At { kept, lost } => {
             let k = kept as usize;
             let l = lost as usize;
+            let moment = stored[k];
+            let store = stored[l];
             Finding::OutOfOrder {
                 lost,
                 kept,
-                moment: stored[k],
-                store: stored[l],
+                moment,
+                store,
             }
         }
     }

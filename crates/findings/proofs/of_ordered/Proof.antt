@@ -25,17 +25,17 @@ cast-k c = search needs
 cast-l : tie.Need-cast-l
 cast-l c = search needs
 
-mul-t12 : tie.Need-mul-t12
-mul-t12 c = search needs
+mul-moment : tie.Need-mul-moment
+mul-moment c = search needs
 
-element-copy-out-t15 : tie.Need-element-copy-out-t15
-element-copy-out-t15 c = let s = c .before in omega (arith, pair-below _ _ _ _ (found-pair _ (s .kept .given .1) (s .before .before .first-pair .ensures)) .0)
+element-copy-out-moment : tie.Need-element-copy-out-moment
+element-copy-out-moment c = let s = c .before in omega (arith, pair-below _ _ _ _ (found-pair _ (s .kept .given .1) (s .before .before .first-pair .ensures)) .0)
 
-mul-t16 : tie.Need-mul-t16
-mul-t16 c = search needs
+mul-store : tie.Need-mul-store
+mul-store c = search needs
 
-element-copy-out-t19 : tie.Need-element-copy-out-t19
-element-copy-out-t19 c = let s = c .before .before in omega (arith, pair-below _ _ _ _ (found-pair _ (s .kept .given .1) (s .before .before .first-pair .ensures)) .1)
+element-copy-out-store : tie.Need-element-copy-out-store
+element-copy-out-store c = let s = c .before .before in omega (arith, pair-below _ _ _ _ (found-pair _ (s .kept .given .1) (s .before .before .first-pair .ensures)) .1)
 
 returns : tie.Need-returns
 returns c = let w = c .before .before in let k = w .before .args in rw (ordered-found (runOf (noCounts 0) (k .stored .now) [] (k .opened .now) (k .closed .now) [] []) (inTables (k .a)) (inTables (k .b)), found-no-pair _ (c .enum-told .given .1) (w .first-pair .ensures))
@@ -52,9 +52,9 @@ of-ordered-spec =
     enum-known-kept
     cast-k
     cast-l
-    mul-t12
-    element-copy-out-t15
-    mul-t16
-    element-copy-out-t19
+    mul-moment
+    element-copy-out-moment
+    mul-store
+    element-copy-out-store
     returns
     returns-2)
