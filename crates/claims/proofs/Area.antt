@@ -5,10 +5,10 @@ use Prim.Native.Nat.{ℕ, suc, _+_, _*_}
 use native.Mathlib.Omega.{arith}
 use lib.ListN.{length, take, drop}
 use lib.Seq.{drop-append-add}
-use Rattle.event.specs.declared.Record.{Record as Event}
+use Rattle.event.specs.declared.Record.{Record}
 use Rattle.event.specs.declared.Finding.{Finding}
 use Rattle.event.specs.declared.Parsed.{Parsed}
-use Rattle.event.specs.declared.Parsed.the-variants.{Record}
+use Rattle.event.specs.declared.Parsed.the-variants.{Read}
 use Rattle.codec.specs.Codec.{findingBytes, findingSize}
 use Rattle.history.specs.History.{History}
 use Rattle.history.specs.View.{ofHistory}
@@ -21,10 +21,10 @@ use Rattle.claims.specs.Traces.{Takes}
 
 -- records that are all taken are events
 pub takes-events : {lines : ℕ} {h : History} {records : List Parsed} {all : History} →
-    Takes lines h records all → records ≡ map Record (eventsOf records)
+    Takes lines h records all → records ≡ map Read (eventsOf records)
 unfolding eventsOf
 takes-events Takes.done = refl
-takes-events (Takes.takes {r = r} k rest) = ap (λ (l : List Parsed). Record r ∷ l) (takes-events rest)
+takes-events (Takes.takes {r = r} k rest) = ap (λ (l : List Parsed). Read r ∷ l) (takes-events rest)
 
 -- and these are the accepted ones
 pub takes-accepted : {lines : ℕ} {h : History} {records : List Parsed} {all : History} →
@@ -48,14 +48,14 @@ past-finding f site bytes n =
     rw place (drop-append-add (findingBytes f site) bytes (findingSize * n))
 
 -- an event after others, all taken after the history: it is accepted after those before it, and its finding stands at its place
-pub record Placed (lines : ℕ) (h : History) (before rest : List Event) (r : Event) (after : List ℕ) : Type 0 where
+pub record Placed (lines : ℕ) (h : History) (before rest : List Record) (r : Record) (after : List ℕ) : Type 0 where
   pub takes : Accepted lines (accepted lines h before) r
   pub bytes : let given = before ++ r ∷ rest in
       take findingSize (drop (findingSize * length before) (findingsBytes given (answers lines h given) ++ after)) ≡
       findingBytes (findingBy (ofHistory lines (accepted lines h before)) (r .event)) (r .site)
 
-pub placed : {lines : ℕ} {h all : History} (before rest : List Event) (r : Event) (after : List ℕ) →
-    Takes lines h (map Record (before ++ r ∷ rest)) all → Placed lines h before rest r after
+pub placed : {lines : ℕ} {h all : History} (before rest : List Record) (r : Record) (after : List ℕ) →
+    Takes lines h (map Read (before ++ r ∷ rest)) all → Placed lines h before rest r after
 unfolding accepted answers findingsBytes
 placed {lines} {h} [] rest r after (Takes.takes k more) = record { takes = k; bytes = rw (answer-found lines h r k) refl }
 placed {lines} {h} (b ∷ before) rest r after (Takes.takes k more) =

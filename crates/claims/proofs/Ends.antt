@@ -9,10 +9,10 @@ use Rattle.tables.specs.View.{intervalFrom}
 use Rattle.claims.specs.Paper.{endAt}
 
 -- an interval that was ended is not open
-pub ended : (t : ℕ) (i : Interval) → isOpen (endAt t i) ≡ false
-ended t None = refl
-ended t (Open s) = refl
-ended t (Closed s e) = refl
+pub end-closes : (t : ℕ) (i : Interval) → isOpen (endAt t i) ≡ false
+end-closes t None = refl
+end-closes t (Open s) = refl
+end-closes t (Closed s e) = refl
 
 -- the interval ends at t if the test passes
 abbrev pub endsIf : Bool → ℕ → Interval → Interval

@@ -12,7 +12,7 @@ use Rattle.history.specs.Found.{isOpen}
 use Rattle.engine.proofs.ClosingFence.{back-no-fence}
 use Rattle.engine.proofs.NextEpochs.{store-no-fence}
 use Rattle.claims.specs.Paper.{Status, write, clwb, sfence, updated}
-use Rattle.claims.proofs.Ends.{ended, endsIf}
+use Rattle.claims.proofs.Ends.{end-closes, endsIf}
 
 -- a store or a write-back is no fence
 pub no-fence : (b l : ℕ) (e : Event) → storesByte b e || writesBackLine l e ≡ true → fences e ≡ false
@@ -53,5 +53,5 @@ module _ (b : ℕ) (e : Event) (s : Status) where
       go : (p w f : Bool) → isOpen (ruled p w f s .flush) ≡ not p && (w || (not f && isOpen (s .flush)))
       go true w f = refl
       go false true f = refl
-      go false false true = ended (suc (s .timestamp)) (s .flush)
+      go false false true = end-closes (suc (s .timestamp)) (s .flush)
       go false false false = refl

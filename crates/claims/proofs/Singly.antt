@@ -9,14 +9,14 @@ use native.Mathlib.Omega.{arith}
 use lib.ListN.{length, take, drop, length-append, length-drop, length-map}
 use lib.Seq.{drop-at}
 use borrow.Author.Tests.{ltb-false}
-use Rattle.event.specs.declared.Record.{Record as Event}
+use Rattle.event.specs.declared.Record.{Record}
 use Rattle.event.specs.declared.Refusal.{Refusal}
 use Rattle.event.specs.declared.Refusal.the-variants.{BadLines}
 use Rattle.event.specs.declared.Check.{Check}
 use Rattle.event.specs.declared.Check.the-variants.{Passed, Refused as Breaks}
 use Rattle.event.specs.declared.Finding.{Finding}
 use Rattle.event.specs.declared.Answer.the-variants.{Found}
-use Rattle.event.specs.declared.Parsed.the-variants.{Record}
+use Rattle.event.specs.declared.Parsed.the-variants.{Read}
 use Rattle.codec.specs.Codec.{findingBytes, findingSize}
 use Rattle.window.specs.Window.{linesCheck}
 use Rattle.history.specs.History.{History}
@@ -49,7 +49,7 @@ module _ (lines : ℕ) (passed : linesCheck lines ≡ Passed) where
   asked-lines = ap (λ (c : Check). windowFor c lines) passed
 
   -- so the accepted events in that many lines give the finding of an event and the totals
-  singly-found : (before : List Event) (r : Event) → Accepted lines (accepted lines [] before) r →
+  singly-found : (before : List Record) (r : Record) → Accepted lines (accepted lines [] before) r →
       giveOf (runFrom lines before) r .answer ≡ Found (findingBy (ofHistory lines (accepted lines [] before)) (r .event))
   singly-found before r =
       subst
@@ -58,7 +58,7 @@ module _ (lines : ℕ) (passed : linesCheck lines ≡ Passed) where
       asked-lines
       (taken lines before r)
 
-  singly-totals : (given : List Event) → let h = accepted lines [] given in depth h ≡ 0 →
+  singly-totals : (given : List Record) → let h = accepted lines [] given in depth h ≡ 0 →
       closeOf (runFrom lines given) ≡ Totals (length h) (epochAt h (length h)) (reported (answers lines [] given))
   singly-totals given =
       subst
@@ -110,7 +110,7 @@ module _ (trace area : List ℕ) (t : AllTaken trace area) where
   -- there are as many events as the trailer counts
   events-count : length (eventsIn trace) ≡ trailerOf trace .count
   events-count =
-      sym (length-map (eventsIn trace) Record) ∙ ap length (sym (takes-events (t .takes))) ∙
+      sym (length-map (eventsIn trace) Read) ∙ ap length (sym (takes-events (t .takes))) ∙
       records-counted (trailerOf trace .count) (recordPart (trailerOf trace .offset) trace)
 
   -- so their findings take 12 × count bytes
@@ -128,11 +128,11 @@ module _ (trace area : List ℕ) (t : AllTaken trace area) where
       rw (area-holds trace area passes) (drop-at (findingsBytes (eventsIn trace) (answersOf trace)) (drop (areaSize trace) area) (areaSize trace) findings-size)
 
   -- each finding stands at its event's place
-  area-finding : (before rest : List Event) (r : Event) → eventsIn trace ≡ before ++ r ∷ rest →
+  area-finding : (before rest : List Record) (r : Record) → eventsIn trace ≡ before ++ r ∷ rest →
       (f : Finding) × (giveOf (runFrom (linesIn trace) before) r .answer ≡ Found f) ×
       (take findingSize (drop (findingSize * length before) (areaAfter trace area)) ≡ findingBytes f (r .site))
   area-finding before rest r e =
-      let events : recordsIn trace ≡ map Record (before ++ r ∷ rest) = takes-events (t .takes) ∙ ap (map Record) e in
+      let events : recordsIn trace ≡ map Read (before ++ r ∷ rest) = takes-events (t .takes) ∙ ap (map Read) e in
       let p = placed before rest r (drop (areaSize trace) area) (rw events at (t .takes)) in (
         findingBy (ofHistory (linesIn trace) (accepted (linesIn trace) [] before)) (r .event),
         singly-found (linesIn trace) (window-passed trace area (t .limits)) before r (p .takes),

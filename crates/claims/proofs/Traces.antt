@@ -11,7 +11,7 @@ use Rattle.event.specs.declared.Refusal.{Refusal}
 use Rattle.event.specs.declared.Refusal.the-variants.{TransactionOpen}
 use Rattle.event.specs.declared.Check.{Check}
 use Rattle.event.specs.declared.Parsed.{Parsed}
-use Rattle.event.specs.declared.Parsed.the-variants.{Record, Refused as Unread}
+use Rattle.event.specs.declared.Parsed.the-variants.{Read, Refused as Unread}
 use Rattle.history.specs.History.{History}
 use Rattle.history.specs.Transaction.{depth}
 use Rattle.history.specs.View.{ofHistory}
@@ -48,9 +48,9 @@ Decided lines n h records = ((x : Refusal) × (m : ℕ) × Stops lines n h recor
 pub records-decided : (lines n : ℕ) (h : History) (records : List Parsed) → Decided lines n h records
 records-decided lines n h [] = inr (h, Takes.done)
 records-decided lines n h (Unread x ∷ rest) = inl (x, n, Stops.unread)
-records-decided lines n h (Record r ∷ rest) = go (limited (limitsBy (ofHistory lines h) (r .event))) (records-decided lines (suc n) (r ∷ h) rest)
+records-decided lines n h (Read r ∷ rest) = go (limited (limitsBy (ofHistory lines h) (r .event))) (records-decided lines (suc n) (r ∷ h) rest)
   where
-    go : Limited (limitsBy (ofHistory lines h) (r .event)) → Decided lines (suc n) (r ∷ h) rest → Decided lines n h (Record r ∷ rest)
+    go : Limited (limitsBy (ofHistory lines h) (r .event)) → Decided lines (suc n) (r ∷ h) rest → Decided lines n h (Read r ∷ rest)
     go (inl (x, k)) more = inl (x, n, Stops.refused k)
     go (inr k) (inl (x, m, s)) = inl (x, m, Stops.later k s)
     go (inr k) (inr (all, t)) = inr (all, Takes.takes k t)

@@ -11,20 +11,20 @@ use Rattle.history.specs.History.{stores, writesBack, fences, logs, storesByte,
 use Rattle.tables.specs.declared.Run.{Run}
 use Rattle.tables.specs.Table.{entry}
 use Rattle.tables.specs.View.{linesOf}
-use Rattle.events.specs.Next.{numberOf, oneMore, closes, tablesAfter}
+use Rattle.events.specs.Next.{nextNumber, oneMore, closes, tablesAfter}
 use Rattle.tables.proofs.Table.{changed-inside, changed-above}
 use Rattle.engine.proofs.Sizes.{Sized}
 use Rattle.engine.proofs.Filled.{Fits, fits, filled-bytes, filled-lines}
 
 -- each entry after an event: the event's number, the epoch or 0 where the event covers or touches its place, and else as it was
 pub record EntriesAfter (run : Run) (e : Event) (next : Run) : Type 0 where
-  pub stored : (b : ℕ) → entry (next .stored) b ≡ cond (storesByte b e) (numberOf (run .counts)) (entry (run .stored) b)
-  pub logged : (b : ℕ) → entry (next .logged) b ≡ cond (logsByte b e) (numberOf (run .counts)) (entry (run .logged) b)
+  pub stored : (b : ℕ) → entry (next .stored) b ≡ cond (storesByte b e) (nextNumber (run .counts)) (entry (run .stored) b)
+  pub logged : (b : ℕ) → entry (next .logged) b ≡ cond (logsByte b e) (nextNumber (run .counts)) (entry (run .logged) b)
   pub opened : (b : ℕ) → entry (next .opened) b ≡ cond (storesByte b e) (run .counts .fences) (entry (run .opened) b)
   pub closed : (b : ℕ) →
       entry (next .closed) b ≡ cond (storesByte b e) 0 (cond (fences e && closes run b) (oneMore (run .counts .fences)) (entry (run .closed) b))
-  pub written : (l : ℕ) → entry (next .written) l ≡ cond (storesLine l e) (numberOf (run .counts)) (entry (run .written) l)
-  pub backed : (l : ℕ) → entry (next .backed) l ≡ cond (writesBackLine l e) (numberOf (run .counts)) (entry (run .backed) l)
+  pub dirtied : (l : ℕ) → entry (next .dirtied) l ≡ cond (storesLine l e) (nextNumber (run .counts)) (entry (run .dirtied) l)
+  pub backed : (l : ℕ) → entry (next .backed) l ≡ cond (writesBackLine l e) (nextNumber (run .counts)) (entry (run .backed) l)
 
 -- an event of none of these kinds changes none
 no-change : (run : Run) (e : Event) → stores e ≡ false → writesBack e ≡ false → fences e ≡ false → logs e ≡ false → EntriesAfter run e run
@@ -34,7 +34,7 @@ no-change run e st wb fe lo =
       logged = λ b. rw lo;
       opened = λ b. rw st;
       closed = λ b. rw (st, fe);
-      written = λ l. rw st;
+      dirtied = λ l. rw st;
       backed = λ l. rw wb;
     }
 
@@ -59,11 +59,11 @@ module _ (run : Run) (s : Sized run) (beyond : (b : ℕ) → windowBytes (linesO
   entries-next lines m (Store a) k =
       let x : Fits a = fits lines m a k in
       record {
-        stored = λ b. filled-bytes (numberOf (run .counts)) a (run .stored) b (omega arith);
+        stored = λ b. filled-bytes (nextNumber (run .counts)) a (run .stored) b (omega arith);
         logged = λ b. refl;
         opened = λ b. filled-bytes (run .counts .fences) a (run .opened) b (omega arith);
         closed = λ b. filled-bytes 0 a (run .closed) b (omega arith);
-        written = λ l. filled-lines (numberOf (run .counts)) a (run .written) l (omega arith);
+        dirtied = λ l. filled-lines (nextNumber (run .counts)) a (run .dirtied) l (omega arith);
         backed = λ l. refl;
       }
   entries-next lines m (WriteBack a) k =
@@ -73,20 +73,20 @@ module _ (run : Run) (s : Sized run) (beyond : (b : ℕ) → windowBytes (linesO
         logged = λ b. refl;
         opened = λ b. refl;
         closed = λ b. refl;
-        written = λ l. refl;
-        backed = λ l. filled-lines (numberOf (run .counts)) a (run .backed) l (omega arith);
+        dirtied = λ l. refl;
+        backed = λ l. filled-lines (nextNumber (run .counts)) a (run .backed) l (omega arith);
       }
   entries-next lines m Fence k =
-      record { stored = λ b. refl; logged = λ b. refl; opened = λ b. refl; closed = closed-by-fence; written = λ l. refl; backed = λ l. refl }
+      record { stored = λ b. refl; logged = λ b. refl; opened = λ b. refl; closed = closed-by-fence; dirtied = λ l. refl; backed = λ l. refl }
   entries-next lines m Begin k = no-change run Begin refl refl refl refl
   entries-next lines m (Log a) k =
       let x : Fits a = fits lines m a k in
       record {
         stored = λ b. refl;
-        logged = λ b. filled-bytes (numberOf (run .counts)) a (run .logged) b (omega arith);
+        logged = λ b. filled-bytes (nextNumber (run .counts)) a (run .logged) b (omega arith);
         opened = λ b. refl;
         closed = λ b. refl;
-        written = λ l. refl;
+        dirtied = λ l. refl;
         backed = λ l. refl;
       }
   entries-next lines m End k = no-change run End refl refl refl refl

@@ -40,7 +40,7 @@ fresh-tracks lines =
       logged = zeros 4096;
       opened = zeros 4096;
       closed = zeros 4096;
-      written = zeros 64;
+      dirtied = zeros 64;
       backed = zeros 64;
     }
 
@@ -53,7 +53,7 @@ fresh-sized lines =
       logged = zeros-length 4096;
       opened = zeros-length 4096;
       closed = zeros-length 4096;
-      written = zeros-length 64;
+      dirtied = zeros-length 64;
       backed = zeros-length 64;
     }
 

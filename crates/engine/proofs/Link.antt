@@ -50,7 +50,7 @@ line-since h n b = go (ltb n (lastStore h b)) refl
     go false e = neither (ltb n (last (is (storesLine (lineOf b)) h) (length h)))
 
 same-since : {lines : ℕ} {h : History} {run : Run} → Tracks lines h run → (b : ℕ) → ofRun run .storedSince b ≡ ofHistory lines h .storedSince b
-same-since {h = h} t b = rw (t .began, t .written (lineOf b), t .stored b) (line-since h (outermost h) b)
+same-since {h = h} t b = rw (t .began, t .dirtied (lineOf b), t .stored b) (line-since h (outermost h) b)
 
 -- a run that tracks a history answers a judge's questions as the history does
 pub same-view : {lines : ℕ} {h : History} {run : Run} → lines ≤ mostLines → Tracks lines h run → ofRun run ≡ ofHistory lines h
@@ -67,7 +67,7 @@ same-view {lines} {h} {run} m t =
       lastLog = λ b. t .logged b i;
       storedSince = λ b. same-since t b i;
       interval = λ b. same-interval t b i;
-      lineStore = λ l. t .written l i;
+      lineStore = λ l. t .dirtied l i;
       lineBack = λ l. t .backed l i;
     }
 

@@ -90,7 +90,7 @@ module _ (lines : ℕ) (m : lines ≤ mostLines) (h : History) (run : Run) (k : 
           logged = λ b. cc (last-next (logsByte b) r h, entries .logged b, t .logged b);
           opened = λ b. cc (opened-next r h b, entries .opened b, t .opened b);
           closed = λ b. cc (closed-next r h b, entries .closed b, t .closed b, closes-same b, next-epoch);
-          written = λ l. cc (last-next (storesLine l) r h, entries .written l, t .written l);
+          dirtied = λ l. cc (last-next (storesLine l) r h, entries .dirtied l, t .dirtied l);
           backed = λ l. cc (last-next (writesBackLine l) r h, entries .backed l, t .backed l);
         }
 
@@ -109,7 +109,7 @@ module _ (lines : ℕ) (m : lines ≤ mostLines) (h : History) (run : Run) (k : 
         let s = sized-next run (k .sized) (r .event) in
         record {
           tracks = tracks-next f;
-          sized = record { stored = s .stored; logged = s .logged; opened = s .opened; closed = s .closed; written = s .written; backed = s .backed };
+          sized = record { stored = s .stored; logged = s .logged; opened = s .opened; closed = s .closed; dirtied = s .dirtied; backed = s .backed };
           taken = Taken.taken (k .taken) a;
           findings = omega (arith, findings-next f, at-most-one (isNone f), k .findings);
         }

@@ -13,7 +13,7 @@ pub record Sized (run : Run) : Type 0 where
   pub logged : length (run .logged) ≡ 4096
   pub opened : length (run .opened) ≡ 4096
   pub closed : length (run .closed) ≡ 4096
-  pub written : length (run .written) ≡ 64
+  pub dirtied : length (run .dirtied) ≡ 64
   pub backed : length (run .backed) ≡ 64
 
 -- and keep them at each event
@@ -25,7 +25,7 @@ sized-next run s (Store a) =
       logged = s .logged;
       opened = rw changed-length (s .opened);
       closed = rw changed-length (s .closed);
-      written = rw changed-length (s .written);
+      dirtied = rw changed-length (s .dirtied);
       backed = s .backed;
     }
 sized-next run s (WriteBack a) =
@@ -34,7 +34,7 @@ sized-next run s (WriteBack a) =
       logged = s .logged;
       opened = s .opened;
       closed = s .closed;
-      written = s .written;
+      dirtied = s .dirtied;
       backed = rw changed-length (s .backed);
     }
 sized-next run s Fence =
@@ -43,7 +43,7 @@ sized-next run s Fence =
       logged = s .logged;
       opened = s .opened;
       closed = rw changed-length (s .closed);
-      written = s .written;
+      dirtied = s .dirtied;
       backed = s .backed;
     }
 sized-next run s Begin = s
@@ -53,7 +53,7 @@ sized-next run s (Log a) =
       logged = rw changed-length (s .logged);
       opened = s .opened;
       closed = s .closed;
-      written = s .written;
+      dirtied = s .dirtied;
       backed = s .backed;
     }
 sized-next run s End = s

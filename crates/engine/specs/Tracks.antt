@@ -26,5 +26,5 @@ pub record Tracks (lines : ℕ) (h : History) (run : Run) : Type 0 where
   pub logged : (b : ℕ) → entry (run .logged) b ≡ last (is (logsByte b) h) (length h)
   pub opened : (b : ℕ) → entry (run .opened) b ≡ epochAt h (lastStore h b)
   pub closed : (b : ℕ) → entry (run .closed) b ≡ closedAt h b
-  pub written : (l : ℕ) → entry (run .written) l ≡ last (is (storesLine l) h) (length h)
+  pub dirtied : (l : ℕ) → entry (run .dirtied) l ≡ last (is (storesLine l) h) (length h)
   pub backed : (l : ℕ) → entry (run .backed) l ≡ last (is (writesBackLine l) h) (length h)

@@ -43,7 +43,7 @@ fn empty_run(lines: u16) -> Run
         logged: [0; 4096],
         opened: [0; 4096],
         closed: [0; 4096],
-        written: [0; 64],
+        dirtied: [0; 64],
         backed: [0; 64],
     }
 }
@@ -73,7 +73,7 @@ pub fn give(run: Run, r: Record) -> Given
     let mut logged = run.logged;
     let mut opened = run.opened;
     let mut closed = run.closed;
-    let mut written = run.written;
+    let mut dirtied = run.dirtied;
     let mut backed = run.backed;
     let step = events::step(
         counts,
@@ -81,7 +81,7 @@ pub fn give(run: Run, r: Record) -> Given
         &mut logged,
         &mut opened,
         &mut closed,
-        &mut written,
+        &mut dirtied,
         &mut backed,
         r,
     );
@@ -95,7 +95,7 @@ pub fn give(run: Run, r: Record) -> Given
             logged,
             opened,
             closed,
-            written,
+            dirtied,
             backed,
         },
     }

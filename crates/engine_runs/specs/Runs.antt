@@ -6,7 +6,7 @@ use lib.Dec.{eqb}
 use lib.ListN.{getD}
 use Rattle.event.specs.declared.Event.the-variants.{Fence}
 use Rattle.event.specs.declared.Parsed.{Parsed}
-use Rattle.event.specs.declared.Parsed.the-variants.{Record, Refused}
+use Rattle.event.specs.declared.Parsed.the-variants.{Read, Refused}
 use Rattle.codec.specs.Codec.{u16At}
 use Rattle.records.specs.Record.{parsed}
 use Rattle.tables.specs.declared.Run.{Run}
@@ -15,7 +15,7 @@ use Rattle.engine.specs.Call.{freshOf}
 
 -- after a record; one that cannot be read changes nothing
 abbrev pub afterRecord : Run → Parsed → Run
-afterRecord run (Record r) = giveOf run r .run
+afterRecord run (Read r) = giveOf run r .run
 afterRecord run (Refused x) = run
 
 -- after so many fences

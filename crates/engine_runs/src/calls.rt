@@ -28,7 +28,7 @@ fn give(run: Run, bytes: &[u8]) -> Run
             print::unread(x);
             run
         }
-        Parsed::Record(r) => {
+        Parsed::Read(r) => {
             let g = engine::give(run, r);
             let event = r.event;
             let answer = g.answer;

@@ -103,6 +103,6 @@ pub enum Answer {
 
 // What reading a record finds.
 pub enum Parsed {
-    Record(Record),
+    Read(Record),
     Refused(Refusal),
 }

@@ -1,26 +1,9 @@
-// The paper's number for each case of an event, a finding and a refusal.
-use crate::Event;
+// The paper's number for each case of a finding and a refusal.
 use crate::Fields;
 use crate::Finding;
 use crate::Refusal;
 ghost use mathlib.Core.Path.{_≡_};
-ghost use Rattle.event.specs.Numbers.{kindOf, fieldsWith, fieldsOf, numberOf};
-
-// The number of an event's kind, 1 to 8.
-pub fn kind(e: Event) -> u8
-    ensures { λ r. ⌜ r ≡ kindOf e ⌝ }
-{
-    match e {
-        Event::Store(_) => 1,
-        Event::WriteBack(_) => 2,
-        Event::Fence => 3,
-        Event::Begin => 4,
-        Event::Log(_) => 5,
-        Event::End => 6,
-        Event::Persisted(_) => 7,
-        Event::Ordered(_, _) => 8,
-    }
-}
+ghost use Rattle.event.specs.Numbers.{fieldsWith, fieldsOf, numberOf};
 
 // The fields of a finding that has lost alone, or none of them.
 fn only_lost(kind: u8, lost: u16) -> Fields

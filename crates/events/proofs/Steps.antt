@@ -24,7 +24,7 @@ use Rattle.searches.specs.Tests.{passing}
 use Rattle.writes.specs.Fenced.{fenced}
 use Rattle.findings.specs.Findings.{durableAt, endedAt}
 use Rattle.findings.proofs.Found.{persisted-found, end-found, ordered-tables}
-use Rattle.events.specs.Next.{numberOf, oneMore, tablesAfter}
+use Rattle.events.specs.Next.{nextNumber, oneMore, tablesAfter}
 use Rattle.events.specs.Give.{outcomeOf, steppedFor, givenFor, giveOf}
 use Rattle.events.proofs.FenceClosed.{fence-closed}
 
@@ -45,29 +45,29 @@ module _ (run : Run) (r : Record) where
 
 -- the answer and the numbers, with the run's tables as they were
 abbrev unchanged : Run → Stepped → Given
-unchanged run s = outcomeOf s (run .stored) (run .logged) (run .opened) (run .closed) (run .written) (run .backed)
+unchanged run s = outcomeOf s (run .stored) (run .logged) (run .opened) (run .closed) (run .dirtied) (run .backed)
 
 -- an accepted event of each kind, from the tables that it asks for and those that it changes
 module _ (run : Run) {s : Stepped} {e : Event} where
-  pub store-taken : {a : Range} {stored opened closed written : List ℕ} → e ≡ Store a →
+  pub store-taken : {a : Range} {stored opened closed dirtied : List ℕ} → e ≡ Store a →
       s ≡ steppedFor (run .counts) (Store a) (findingBy (ofRun (runOf (run .counts) [] (run .logged) [] [] [] [])) (Store a)) →
-      stored ≡ filledBytes (numberOf (run .counts)) a (run .stored) → opened ≡ filledBytes (run .counts .fences) a (run .opened) →
-      closed ≡ filledBytes 0 a (run .closed) → written ≡ filledLines (numberOf (run .counts)) a (run .written) →
-      outcomeOf s stored (run .logged) opened closed written (run .backed) ≡ givenFor Passed run e
+      stored ≡ filledBytes (nextNumber (run .counts)) a (run .stored) → opened ≡ filledBytes (run .counts .fences) a (run .opened) →
+      closed ≡ filledBytes 0 a (run .closed) → dirtied ≡ filledLines (nextNumber (run .counts)) a (run .dirtied) →
+      outcomeOf s stored (run .logged) opened closed dirtied (run .backed) ≡ givenFor Passed run e
   unfolding findingBy tablesAfter
   store-taken told stepped i j k l = rw (told, stepped, i, j, k, l)
 
   pub back-taken : {a : Range} {backed : List ℕ} → e ≡ WriteBack a →
-      s ≡ steppedFor (run .counts) (WriteBack a) (findingBy (ofRun (runOf (noCounts 0) [] [] [] [] (run .written) (run .backed))) (WriteBack a)) →
-      backed ≡ filledLines (numberOf (run .counts)) a (run .backed) →
-      outcomeOf s (run .stored) (run .logged) (run .opened) (run .closed) (run .written) backed ≡ givenFor Passed run e
+      s ≡ steppedFor (run .counts) (WriteBack a) (findingBy (ofRun (runOf (noCounts 0) [] [] [] [] (run .dirtied) (run .backed))) (WriteBack a)) →
+      backed ≡ filledLines (nextNumber (run .counts)) a (run .backed) →
+      outcomeOf s (run .stored) (run .logged) (run .opened) (run .closed) (run .dirtied) backed ≡ givenFor Passed run e
   unfolding findingBy tablesAfter
   back-taken told stepped i = rw (told, stepped, i)
 
   pub fence-taken : {closed : List ℕ} → e ≡ Fence → s ≡ steppedFor (run .counts) Fence None →
       closed ≡
       changed (fenced (run .counts .fence) (oneMore (run .counts .fences)) (run .stored) (run .backed)) 0 (windowBytes (linesOf (run .counts))) (run .closed) →
-      outcomeOf s (run .stored) (run .logged) (run .opened) closed (run .written) (run .backed) ≡ givenFor Passed run e
+      outcomeOf s (run .stored) (run .logged) (run .opened) closed (run .dirtied) (run .backed) ≡ givenFor Passed run e
   unfolding findingBy tablesAfter
   fence-taken told stepped i = rw (told, stepped, i, fence-closed run)
 
@@ -77,19 +77,19 @@ module _ (run : Run) {s : Stepped} {e : Event} where
 
   pub log-taken : {a : Range} {logged : List ℕ} → e ≡ Log a →
       s ≡ steppedFor (run .counts) (Log a) (findingBy (ofRun (runOf (run .counts) [] (run .logged) [] [] [] [])) (Log a)) →
-      logged ≡ filledBytes (numberOf (run .counts)) a (run .logged) →
-      outcomeOf s (run .stored) logged (run .opened) (run .closed) (run .written) (run .backed) ≡ givenFor Passed run e
+      logged ≡ filledBytes (nextNumber (run .counts)) a (run .logged) →
+      outcomeOf s (run .stored) logged (run .opened) (run .closed) (run .dirtied) (run .backed) ≡ givenFor Passed run e
   unfolding findingBy tablesAfter
   log-taken told stepped i = rw (told, stepped, i)
 
-  pub end-taken : e ≡ End → s ≡ steppedFor (run .counts) End (endedAt (numberOf (run .counts)) (run .counts) (run .stored) (run .closed) (run .written)) → unchanged run s ≡ givenFor Passed run e
+  pub end-taken : e ≡ End → s ≡ steppedFor (run .counts) End (endedAt (nextNumber (run .counts)) (run .counts) (run .stored) (run .closed) (run .dirtied)) → unchanged run s ≡ givenFor Passed run e
   unfolding tablesAfter
   end-taken told stepped = rw (told, stepped, end-found run)
 
   pub persisted-taken : {a : Range} → e ≡ Persisted a →
       s ≡
       steppedFor (run .counts) (Persisted a)
-      (durableAt (numberOf (run .counts)) (run .stored) (lowestIn (passing (OpenSince 0) (run .stored) (run .closed)) a)) →
+      (durableAt (nextNumber (run .counts)) (run .stored) (lowestIn (passing (OpenSince 0) (run .stored) (run .closed)) a)) →
       unchanged run s ≡ givenFor Passed run e
   unfolding tablesAfter
   persisted-taken told stepped = rw (told, stepped, persisted-found run)

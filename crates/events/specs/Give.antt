@@ -20,7 +20,7 @@ use Rattle.events.specs.Next.{countsAfter, tablesAfter}
 abbrev pub nextOf : Run → Event → Finding → Run
 nextOf run e f =
     let next = tablesAfter run e in
-    runOf (countsAfter (run .counts) e f) (next .stored) (next .logged) (next .opened) (next .closed) (next .written) (next .backed)
+    runOf (countsAfter (run .counts) e f) (next .stored) (next .logged) (next .opened) (next .closed) (next .dirtied) (next .backed)
 
 -- the answer and the numbers of an accepted event that got this finding
 abbrev pub steppedFor : Counts → Event → Finding → Stepped
@@ -35,6 +35,6 @@ unfoldable pub giveOf : Run → Record → Given
 giveOf run r = givenFor (refusalBy (ofRun run) (r .event)) run (r .event)
 
 -- the answer and the run where the caller lent the tables, which are then these
-abbrev pub outcomeOf : Stepped → (stored logged opened closed written backed : List ℕ) → Given
-outcomeOf s stored logged opened closed written backed =
-    record { answer = s .answer; run = runOf (s .counts) stored logged opened closed written backed }
+abbrev pub outcomeOf : Stepped → (stored logged opened closed dirtied backed : List ℕ) → Given
+outcomeOf s stored logged opened closed dirtied backed =
+    record { answer = s .answer; run = runOf (s .counts) stored logged opened closed dirtied backed }

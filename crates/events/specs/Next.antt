@@ -17,8 +17,8 @@ use Rattle.tables.specs.Table.{changed, filledBytes, filledLines}
 use Rattle.tables.specs.View.{linesOf, runOf, ofRun}
 
 -- the event's own number
-abbrev pub numberOf : Counts → ℕ
-numberOf counts = suc (counts .events)
+abbrev pub nextNumber : Counts → ℕ
+nextNumber counts = suc (counts .events)
 
 -- one more, in 16 bits
 abbrev pub oneMore : ℕ → ℕ
@@ -29,7 +29,7 @@ abbrev pub countedWith : Counts → Finding → Counts
 countedWith c f =
     record {
       lines = c .lines;
-      events = numberOf c;
+      events = nextNumber c;
       fences = c .fences;
       findings = cond (isNone f) (c .findings) (oneMore (c .findings));
       depth = c .depth;
@@ -62,34 +62,34 @@ closes run b =
 -- a store: the last of its bytes and of its lines; the intervals of its bytes open
 abbrev pub afterStore : Run → Range → Run
 afterStore run a =
-    let n = numberOf (run .counts) in
+    let n = nextNumber (run .counts) in
     record {
       counts = run .counts;
       stored = filledBytes n a (run .stored);
       logged = run .logged;
       opened = filledBytes (run .counts .fences) a (run .opened);
       closed = filledBytes 0 a (run .closed);
-      written = filledLines n a (run .written);
+      dirtied = filledLines n a (run .dirtied);
       backed = run .backed;
     }
 
 -- a write-back: the last of its lines
 abbrev pub afterBack : Run → Range → Run
 afterBack run a =
-    runOf (run .counts) (run .stored) (run .logged) (run .opened) (run .closed) (run .written)
-    (filledLines (numberOf (run .counts)) a (run .backed))
+    runOf (run .counts) (run .stored) (run .logged) (run .opened) (run .closed) (run .dirtied)
+    (filledLines (nextNumber (run .counts)) a (run .backed))
 
 -- a fence: the epoch that it begins closes bytes of the window
 abbrev pub afterFence : Run → Run
 afterFence run =
     runOf (run .counts) (run .stored) (run .logged) (run .opened)
     (changed (λ b old. cond (closes run b) (oneMore (run .counts .fences)) old) 0 (windowBytes (linesOf (run .counts))) (run .closed))
-    (run .written) (run .backed)
+    (run .dirtied) (run .backed)
 
 -- a log: the last of its bytes
 abbrev pub afterLog : Run → Range → Run
 afterLog run a =
-    runOf (run .counts) (run .stored) (filledBytes (numberOf (run .counts)) a (run .logged)) (run .opened) (run .closed) (run .written) (run .backed)
+    runOf (run .counts) (run .stored) (filledBytes (nextNumber (run .counts)) a (run .logged)) (run .opened) (run .closed) (run .dirtied) (run .backed)
 
 -- the run with its tables as they are after the event, and its numbers as they were
 unfoldable pub tablesAfter : Run → Event → Run

@@ -24,7 +24,7 @@ ghost use Rattle.tables.specs.View.{runOf, noCounts, linesOf, limitsOf, ofRun};
 ghost use Rattle.searches.specs.Tests.{passing};
 ghost use Rattle.writes.specs.Fenced.{fenced};
 ghost use Rattle.findings.specs.Findings.{durableAt, endedAt};
-ghost use Rattle.events.specs.Next.{numberOf, oneMore, countedWith};
+ghost use Rattle.events.specs.Next.{nextNumber, oneMore, countedWith};
 ghost use Rattle.events.specs.Give.{outcomeOf, steppedFor, givenFor, giveOf};
 
 // An event given to a run: its refusal or its finding, and the run to go on with.
@@ -69,15 +69,15 @@ fn store(
     logged: &[u16; 4096],
     opened: &mut [u16; 4096],
     closed: &mut [u16; 4096],
-    written: &mut [u16; 64],
+    dirtied: &mut [u16; 64],
     a: Range,
 ) -> Stepped
     requires { ⌜ (counts .events < 65535) × (rangeEnd a ≤ 4096) ⌝ }
     ensures { λ s. ⌜ s ≡ steppedFor counts (Event.Store a) (findingBy (ofRun (runOf counts [] (now (logged .entry)) [] [] [] [])) (Event.Store a)) ⌝ }
-    ensures { λ _. ⌜ now (stored .exit) ≡ filledBytes (numberOf counts) a (now (stored .entry)) ⌝ }
+    ensures { λ _. ⌜ now (stored .exit) ≡ filledBytes (nextNumber counts) a (now (stored .entry)) ⌝ }
     ensures { λ _. ⌜ now (opened .exit) ≡ filledBytes (counts .fences) a (now (opened .entry)) ⌝ }
     ensures { λ _. ⌜ now (closed .exit) ≡ filledBytes 0 a (now (closed .entry)) ⌝ }
-    ensures { λ _. ⌜ now (written .exit) ≡ filledLines (numberOf counts) a (now (written .entry)) ⌝ }
+    ensures { λ _. ⌜ now (dirtied .exit) ≡ filledLines (nextNumber counts) a (now (dirtied .entry)) ⌝ }
 {
     let finding = findings::of_store(counts, logged, a);
     let next = counted(counts, finding);
@@ -87,7 +87,7 @@ fn store(
         stored,
         opened,
         closed,
-        written,
+        dirtied,
         a,
     );
     Stepped {
@@ -100,16 +100,16 @@ fn store(
 }
 
 // A write-back: the last of its lines.
-fn write_back(counts: Counts, written: &[u16; 64], backed: &mut [u16; 64], a: Range) -> Stepped
+fn write_back(counts: Counts, dirtied: &[u16; 64], backed: &mut [u16; 64], a: Range) -> Stepped
     requires { ⌜ (counts .events < 65535) × (rangeEnd a ≤ 4096) ⌝ }
     ensures { λ s. ⌜
         s ≡
         steppedFor counts (Event.WriteBack a)
-        (findingBy (ofRun (runOf (noCounts 0) [] [] [] [] (now (written .entry)) (now (backed .entry)))) (Event.WriteBack a))
+        (findingBy (ofRun (runOf (noCounts 0) [] [] [] [] (now (dirtied .entry)) (now (backed .entry)))) (Event.WriteBack a))
         ⌝ }
-    ensures { λ _. ⌜ now (backed .exit) ≡ filledLines (numberOf counts) a (now (backed .entry)) ⌝ }
+    ensures { λ _. ⌜ now (backed .exit) ≡ filledLines (nextNumber counts) a (now (backed .entry)) ⌝ }
 {
-    let finding = findings::of_back(written, backed, a);
+    let finding = findings::of_back(dirtied, backed, a);
     let next = counted(counts, finding);
     writes::fill_lines(backed, a, next.events);
     Stepped {
@@ -166,7 +166,7 @@ fn begin(counts: Counts) -> Stepped
 fn log(counts: Counts, logged: &mut [u16; 4096], a: Range) -> Stepped
     requires { ⌜ (counts .events < 65535) × (rangeEnd a ≤ 4096) ⌝ }
     ensures { λ s. ⌜ s ≡ steppedFor counts (Event.Log a) (findingBy (ofRun (runOf counts [] (now (logged .entry)) [] [] [] [])) (Event.Log a)) ⌝ }
-    ensures { λ _. ⌜ now (logged .exit) ≡ filledBytes (numberOf counts) a (now (logged .entry)) ⌝ }
+    ensures { λ _. ⌜ now (logged .exit) ≡ filledBytes (nextNumber counts) a (now (logged .entry)) ⌝ }
 {
     let finding = findings::of_log(counts, logged, a);
     let next = counted(counts, finding);
@@ -178,11 +178,11 @@ fn log(counts: Counts, logged: &mut [u16; 4096], a: Range) -> Stepped
 }
 
 // An end: one transaction less is open.
-fn end(counts: Counts, stored: &[u16; 4096], closed: &[u16; 4096], written: &[u16; 64]) -> Stepped
+fn end(counts: Counts, stored: &[u16; 4096], closed: &[u16; 4096], dirtied: &[u16; 64]) -> Stepped
     requires { ⌜ (counts .events < 65535) × (1 ≤ counts .depth) ⌝ }
-    ensures { λ s. ⌜ s ≡ steppedFor counts Event.End (endedAt (numberOf counts) counts (now (stored .entry)) (now (closed .entry)) (now (written .entry))) ⌝ }
+    ensures { λ s. ⌜ s ≡ steppedFor counts Event.End (endedAt (nextNumber counts) counts (now (stored .entry)) (now (closed .entry)) (now (dirtied .entry))) ⌝ }
 {
-    let finding = findings::of_end(counts.events + 1, counts, stored, closed, written);
+    let finding = findings::of_end(counts.events + 1, counts, stored, closed, dirtied);
     let next = counted(counts, finding);
     Stepped {
         answer: Answer::Found(finding),
@@ -199,7 +199,7 @@ fn persisted(counts: Counts, stored: &[u16; 4096], closed: &[u16; 4096], a: Rang
     ensures { λ s. ⌜
         s ≡
         steppedFor counts (Event.Persisted a)
-        (durableAt (numberOf counts) (now (stored .entry))
+        (durableAt (nextNumber counts) (now (stored .entry))
         (lowestIn (passing (Test.OpenSince 0) (now (stored .entry)) (now (closed .entry))) a))
         ⌝ }
 {
@@ -242,27 +242,27 @@ fn accept(
     logged: &mut [u16; 4096],
     opened: &mut [u16; 4096],
     closed: &mut [u16; 4096],
-    written: &mut [u16; 64],
+    dirtied: &mut [u16; 64],
     backed: &mut [u16; 64],
     e: Event,
 ) -> Stepped
     requires { ⌜ refusalBy (limitsOf counts) e ≡ Passed ⌝ }
     ensures { λ s. ⌜
         outcomeOf s (now (stored .exit)) (now (logged .exit)) (now (opened .exit)) (now (closed .exit))
-        (now (written .exit)) (now (backed .exit)) ≡
+        (now (dirtied .exit)) (now (backed .exit)) ≡
         givenFor Passed
         (runOf counts (now (stored .entry)) (now (logged .entry)) (now (opened .entry)) (now (closed .entry))
-        (now (written .entry)) (now (backed .entry)))
+        (now (dirtied .entry)) (now (backed .entry)))
         e
         ⌝ }
 {
     match e {
-        Event::Store(a) => store(counts, stored, logged, opened, closed, written, a),
-        Event::WriteBack(a) => write_back(counts, written, backed, a),
+        Event::Store(a) => store(counts, stored, logged, opened, closed, dirtied, a),
+        Event::WriteBack(a) => write_back(counts, dirtied, backed, a),
         Event::Fence => fence(counts, stored, closed, backed),
         Event::Begin => begin(counts),
         Event::Log(a) => log(counts, logged, a),
-        Event::End => end(counts, stored, closed, written),
+        Event::End => end(counts, stored, closed, dirtied),
         Event::Persisted(a) => persisted(counts, stored, closed, a),
         Event::Ordered(a, b) => ordered(counts, stored, opened, closed, a, b),
     }
@@ -276,16 +276,16 @@ pub fn step(
     logged: &mut [u16; 4096],
     opened: &mut [u16; 4096],
     closed: &mut [u16; 4096],
-    written: &mut [u16; 64],
+    dirtied: &mut [u16; 64],
     backed: &mut [u16; 64],
     r: Record,
 ) -> Stepped
     ensures { λ s. ⌜
         outcomeOf s (now (stored .exit)) (now (logged .exit)) (now (opened .exit)) (now (closed .exit))
-        (now (written .exit)) (now (backed .exit)) ≡
+        (now (dirtied .exit)) (now (backed .exit)) ≡
         giveOf
         (runOf counts (now (stored .entry)) (now (logged .entry)) (now (opened .entry)) (now (closed .entry))
-        (now (written .entry)) (now (backed .entry)))
+        (now (dirtied .entry)) (now (backed .entry)))
         r
         ⌝ }
 {
@@ -298,6 +298,6 @@ pub fn step(
                 counts: unchanged,
             }
         }
-        Check::Passed => { accept(counts, stored, logged, opened, closed, written, backed, e) }
+        Check::Passed => { accept(counts, stored, logged, opened, closed, dirtied, backed, e) }
     }
 }

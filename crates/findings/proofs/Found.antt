@@ -70,11 +70,11 @@ module _ (run : Run) where
   -- a write-back goes by the last store and the last write-back of each line
   pub back-found : (a : Range) →
       findingBy (ofRun run) (WriteBack a) ≡
-      foundOr (lowest (passing Wasted (run .written) (run .backed)) (lineOf (a .address)) (lineCount a)) None (warnedLine (ofRun run))
+      foundOr (lowest (passing Wasted (run .dirtied) (run .backed)) (lineOf (a .address)) (lineCount a)) None (warnedLine (ofRun run))
   unfolding findingBy
   back-found a =
-      let same : (λ l. clean (ofRun run) l || writtenTwice (ofRun run) l) ≡ passing Wasted (run .written) (run .backed) =
-      fun-ext (λ l. wasted (eqb (entry (run .written) l) 0) (ltb (entry (run .written) l) (entry (run .backed) l))) in
+      let same : (λ l. clean (ofRun run) l || writtenTwice (ofRun run) l) ≡ passing Wasted (run .dirtied) (run .backed) =
+      fun-ext (λ l. wasted (eqb (entry (run .dirtied) l) 0) (ltb (entry (run .dirtied) l) (entry (run .backed) l))) in
       rw same
     where
       wasted : (w t : Bool) → w || (not w && t) ≡ (w || t)
@@ -95,14 +95,14 @@ module _ (run : Run) where
       rw same
 
   -- an end likewise, over the bytes stored to since the begin
-  pub end-found : findingBy (ofRun run) End ≡ endedAt (suc (run .counts .events)) (run .counts) (run .stored) (run .closed) (run .written)
+  pub end-found : findingBy (ofRun run) End ≡ endedAt (suc (run .counts .events)) (run .counts) (run .stored) (run .closed) (run .dirtied)
   unfolding findingBy
   end-found =
-      let same : (λ b. ofRun run .storedSince b && atRisk (ofRun run) b) ≡ lostAtEnd (run .counts .begin) (run .stored) (run .closed) (run .written) =
+      let same : (λ b. ofRun run .storedSince b && atRisk (ofRun run) b) ≡ lostAtEnd (run .counts .begin) (run .stored) (run .closed) (run .dirtied) =
       fun-ext
       (λ b.
       rw (at-risk b)
-      (later (ltb (run .counts .begin) (entry (run .written) (lineOf b))) (run .counts .begin) (entry (run .stored) b) (eqb (entry (run .closed) b) 0))) in
+      (later (ltb (run .counts .begin) (entry (run .dirtied) (lineOf b))) (run .counts .begin) (entry (run .stored) b) (eqb (entry (run .closed) b) 0))) in
       rw same
     where
       later : (line : Bool) (n s : ℕ) (t : Bool) → (line && ltb n s) && (ltb 0 s && t) ≡ (line && (ltb n s && t))

@@ -30,18 +30,18 @@ pub fn of_store(counts: Counts, logged: &[u16; 4096], a: Range) -> Finding
 }
 
 // A write-back: clean or written twice.
-pub fn of_back(written: &[u16; 64], backed: &[u16; 64], a: Range) -> Finding
+pub fn of_back(dirtied: &[u16; 64], backed: &[u16; 64], a: Range) -> Finding
     ensures { λ r. ⌜
         r ≡
-        findingBy (ofRun (runOf (noCounts 0) [] [] [] [] (now (written .entry)) (now (backed .entry)))) (Event.WriteBack (inTables a))
+        findingBy (ofRun (runOf (noCounts 0) [] [] [] [] (now (dirtied .entry)) (now (backed .entry)))) (Event.WriteBack (inTables a))
         ⌝ }
 {
-    match searches::first_line(Test::Wasted, written, backed, a) {
+    match searches::first_line(Test::Wasted, dirtied, backed, a) {
         Search::Nothing => Finding::None,
         Search::At(l) => {
             let lost = window::line_start(l);
             let i = l as usize;
-            if written[i] == 0 {
+            if dirtied[i] == 0 {
                 Finding::Clean { lost }
             } else {
                 Finding::WrittenTwice { lost }
@@ -96,9 +96,9 @@ pub fn of_end(
     counts: Counts,
     stored: &[u16; 4096],
     closed: &[u16; 4096],
-    written: &[u16; 64],
+    dirtied: &[u16; 64],
 ) -> Finding
-    ensures { λ r. ⌜ r ≡ endedAt number counts (now (stored .entry)) (now (closed .entry)) (now (written .entry)) ⌝ }
+    ensures { λ r. ⌜ r ≡ endedAt number counts (now (stored .entry)) (now (closed .entry)) (now (dirtied .entry)) ⌝ }
 {
     if counts.depth != 1 {
         return Finding::None;
@@ -106,7 +106,7 @@ pub fn of_end(
     if counts.store <= counts.begin {
         return Finding::Empty;
     }
-    let s = searches::first_since_begin(counts, stored, closed, written);
+    let s = searches::first_since_begin(counts, stored, closed, dirtied);
     lost_at(number, stored, s)
 }
 

@@ -24,7 +24,7 @@ use Rattle.history.specs.Interval.{lastStore}
 use Rattle.history.specs.Transaction.{depth, outermost, Since}
 use Rattle.history.specs.View.{ofHistory}
 use Rattle.history.specs.Broken.{PersistedBroken}
-use Rattle.history.specs.Found.{lowest, atRisk, durable, breaks, inOrder, ended, findingBy, Pair, isOpen}
+use Rattle.history.specs.Found.{lowest, atRisk, durable, breaks, inOrder, outermostEnd, findingBy, Pair, isOpen}
 use Rattle.history.specs.Assertion.{Shown, BrokenByte, Persists, BrokenPair, Orders}
 use Rattle.history.specs.Claim.{Ended, ClaimOf, Claim}
 use Rattle.history.proofs.Search.{Least, Decides, least, LeastPair, least-pair}
@@ -108,7 +108,7 @@ module _ (lines : ℕ) (h : History) (r : Record) (q : NoEffect (r .event)) wher
         to = λ b y. omega (arith, inside (y .judged .number) b (y .judged .passes));
       }
 
-  ended-meets : Inside lines h → Ended h now n (cond (eqb (depth h) 1) (ended (ofHistory lines h)) None)
+  ended-meets : Inside lines h → Ended h now n (cond (eqb (depth h) 1) (outermostEnd (ofHistory lines h)) None)
   ended-meets inside = go (eqb (depth h) 1) refl (ltb (outermost h) (last (is stores h) (length h))) refl
     where
       judged : Finding

@@ -8,8 +8,8 @@ use Rattle.history.specs.Transaction.{depth, outermost}
 use Rattle.history.specs.Found.{lowest, lowestPair, findingBy}
 use Rattle.history.specs.Refused.{refusalBy}
 use Rattle.history.specs.Given.{answerOf, answers}
-use Rattle.history.specs.Small.{SmallRun, smallRuns, recordsOf, foundAll}
+use Rattle.history.specs.Small.{SmallRun, smallRuns, recorded, foundAll}
 
-pub small-runs : map (λ (run : SmallRun). answers 2 [] (recordsOf (run .given))) smallRuns ≡ map (λ (run : SmallRun). foundAll (run .findings)) smallRuns
+pub small-runs : map (λ (run : SmallRun). answers 2 [] (recorded (run .given))) smallRuns ≡ map (λ (run : SmallRun). foundAll (run .findings)) smallRuns
 unfolding count last first is epochAt lastStore backAfter fenceAfter intervalOf depth outermost lowest lowestPair findingBy refusalBy answerOf answers
 small-runs = refl

@@ -107,8 +107,8 @@ inOrder v none = Holds
 inOrder v (some p) = OutOfOrder (p .lost) (p .kept) (v .lastStore (p .kept)) (v .lastStore (p .lost))
 
 -- an outermost end is judged over the bytes stored since its begin
-abbrev pub ended : View → Finding
-ended v =
+abbrev pub outermostEnd : View → Finding
+outermostEnd v =
     cond (since v (v .latestStore))
     (durable v (lowest (λ b. v .storedSince b && atRisk v b) 0 (windowBytes (v .lines))))
     Empty
@@ -120,6 +120,6 @@ findingBy v (WriteBack a) = foundOr (lowest (λ l. clean v l || writtenTwice v l
 findingBy v Fence = None
 findingBy v Begin = None
 findingBy v (Log a) = foundOr (lowestIn (logged v) a) None LoggedTwice
-findingBy v End = cond (eqb (v .depth) 1) (ended v) None
+findingBy v End = cond (eqb (v .depth) 1) (outermostEnd v) None
 findingBy v (Persisted a) = durable v (lowestIn (atRisk v) a)
 findingBy v (Ordered a b) = inOrder v (lowestPair (breaks v) a (b .address) (b .length))

@@ -23,8 +23,8 @@ infix 50 _/·_
 abbrev _/·_ : ℕ → ℕ → Range
 address /· length = record { address = address; length = length }
 
-abbrev pub recordsOf : List Event → List Record
-recordsOf given = map (λ e. record { event = e; site = 0 }) given
+abbrev pub recorded : List Event → List Record
+recorded given = map (λ e. record { event = e; site = 0 }) given
 
 abbrev pub foundAll : List Finding → List Answer
 foundAll findings = map Found findings

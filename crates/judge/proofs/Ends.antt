@@ -9,10 +9,10 @@ use Rattle.tables.specs.declared.Counts.{Counts}
 use Rattle.trace.specs.declared.TraceCheck.{TraceCheck}
 use Rattle.trace.specs.declared.TraceCheck.the-variants.{Passed, Refused as RefusedAt}
 use Rattle.verdict.specs.declared.Verdict.the-variants.{Refused, Accepted}
-use Rattle.pass.specs.Pass.{Ended}
+use Rattle.pass.specs.Pass.{Result}
 use Rattle.judge.specs.Ends.{verdictBy, areaBy}
 
-module _ (e : Ended) (size : ℕ) (area : List ℕ) {check : TraceCheck} (is : check ≡ e .check) where
+module _ (e : Result) (size : ℕ) (area : List ℕ) {check : TraceCheck} (is : check ≡ e .check) where
   -- a refusal
   pub ends-refused : {x : Refusal} {n : ℕ} → check ≡ RefusedAt x n → (Refused x n ≡ verdictBy e) × (area ≡ areaBy size e area)
   ends-refused k = let known = equal-by is k in (rw known, rw known)

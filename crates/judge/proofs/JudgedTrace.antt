@@ -15,7 +15,7 @@ use Rattle.trailer.proofs.Written.{opened}
 use Rattle.verdict.specs.Verdict.{areaSize, traceCheck, verdictOf, areaAfter}
 use Rattle.verdict.proofs.Order.{records-decide, window-fits}
 use Rattle.verdict.proofs.Outcome.{rejected, totalled, area-holds, all-counted}
-use Rattle.pass.specs.Pass.{Ended, allJudged}
+use Rattle.pass.specs.Pass.{Result, allJudged}
 use Rattle.pass.proofs.Whole.{Judged, judged-check, judged}
 use Rattle.judge.specs.Ends.{verdictFrom, verdictBy, areaFrom, areaBy}
 
@@ -24,11 +24,11 @@ module _ (s area : List ℕ) where
   module _ {t : Trailer} (known : openedOf s ≡ Known t) (fits : findingSize * t .count ≤ length area)
       {part : List ℕ} (is : part ≡ recordPart (t .offset) s) (buffer : List ℕ) (room : findingSize * t .count ≤ length buffer) where
     -- where the records of the part lead
-    abbrev end : Ended
+    abbrev end : Result
     end = allJudged (t .count) (t .lines) part buffer
 
     -- they are those of the trace
-    abbrev inTrace : Ended
+    abbrev inTrace : Result
     inTrace = allJudged (trailerOf s .count) (linesIn s) (recordPart (trailerOf s .offset) s) buffer
 
     same-end : end ≡ inTrace

@@ -9,7 +9,7 @@ use Rattle.trace.specs.declared.TraceCheck.the-variants.{Passed, Refused as Ref
 use Rattle.verdict.specs.declared.Verdict.{Verdict}
 use Rattle.verdict.specs.declared.Verdict.the-variants.{Refused, Accepted}
 use Rattle.record_step.specs.Step.{Stage}
-use Rattle.pass.specs.Pass.{Ended}
+use Rattle.pass.specs.Pass.{Result}
 
 -- the bytes of the longest trace without its trailer: as many as the findings of its records take at most
 abbrev pub longBuffer : ℕ
@@ -24,7 +24,7 @@ abbrev pub verdictFrom : TraceCheck → Stage → Verdict
 verdictFrom (RefusedAt x n) s = Refused x n
 verdictFrom Passed s = Accepted (s .run .counts .events) (s .run .counts .fences) (s .run .counts .findings)
 
-abbrev pub verdictBy : Ended → Verdict
+abbrev pub verdictBy : Result → Verdict
 verdictBy e = verdictFrom (e .check) (e .stage)
 
 -- the area after them: as it was, or with so many bytes of the buffer in front
@@ -32,5 +32,5 @@ abbrev pub areaFrom : TraceCheck → ℕ → (buffer area : List ℕ) → List �
 areaFrom (RefusedAt x n) size buffer area = area
 areaFrom Passed size buffer area = take size buffer ++ drop size area
 
-abbrev pub areaBy : ℕ → Ended → List ℕ → List ℕ
+abbrev pub areaBy : ℕ → Result → List ℕ → List ℕ
 areaBy size e area = areaFrom (e .check) size (e .stage .buffer) area

@@ -7,12 +7,12 @@ use lib.Dec.{eqb}
 use lib.ListN.{length, drop, getD, length-append}
 use lib.Seq.{getD-append-add}
 use borrow.Author.Tests.{not-false, eqb-true, ltb-false}
-use Rattle.event.specs.declared.Record.{Record as Event}
+use Rattle.event.specs.declared.Record.{Record}
 use Rattle.event.specs.declared.Finding.{Finding}
 use Rattle.event.specs.declared.Check.the-variants.{Passed as Fits}
 use Rattle.event.specs.declared.Answer.the-variants.{Found}
 use Rattle.event.specs.declared.Parsed.{Parsed}
-use Rattle.event.specs.declared.Parsed.the-variants.{Record, Refused as Unread}
+use Rattle.event.specs.declared.Parsed.the-variants.{Read, Refused as Unread}
 use Rattle.event.specs.Numbers.{fieldsOf}
 use Rattle.codec.specs.Codec.{u16At, findingBytes, fieldsAt, findingSize}
 use Rattle.codec.proofs.Meaning.{u16-round-trip}
@@ -64,15 +64,15 @@ line-read before bytes f site rest e =
 -- records that are events, each with a finding after the history and those before it
 data AllFound (lines : ℕ) : History → List Parsed → Type 0 where
   done : {h : History} → AllFound lines h []
-  found : {h : History} {r : Event} {f : Finding} {rest : List Parsed} →
-      answerOf lines h r ≡ Found f → AllFound lines (r ∷ h) rest → AllFound lines h (Record r ∷ rest)
+  found : {h : History} {r : Record} {f : Finding} {rest : List Parsed} →
+      answerOf lines h r ≡ Found f → AllFound lines (r ∷ h) rest → AllFound lines h (Read r ∷ rest)
 
 -- those that are not refused are
 all-found : (lines n : ℕ) (h : History) (records : List Parsed) → checkFrom lines n h records ≡ Passed → AllFound lines h records
 unfolding checkFrom answerOf
 all-found lines n h [] e = AllFound.done
 all-found lines n h (Unread x ∷ rest) e = let z : _≡_ {A = ℕ} 0 1 = cc in absurd (omega arith)
-all-found lines n h (Record r ∷ rest) e =
+all-found lines n h (Read r ∷ rest) e =
     let passes = unless-passed (refusalBy (ofHistory lines h) (r .event)) n (checkFrom lines (suc n) (r ∷ h) rest) e in
     let answer : answerOf lines h r ≡ Found (findingBy (ofHistory lines h) (r .event)) = rw (passes .0) in
     AllFound.found answer (all-found lines (suc n) (r ∷ h) rest (passes .1))
@@ -106,7 +106,7 @@ lines-read {lines} {h} (AllFound.found {r = r} {f = f} {rest = others} e rest) b
 few-events : (records : List Parsed) → length (eventsOf records) ≤ length records
 unfolding eventsOf
 few-events [] = omega arith
-few-events (Record r ∷ rest) = omega (arith, few-events rest)
+few-events (Read r ∷ rest) = omega (arith, few-events rest)
 few-events (Unread x ∷ rest) = omega (arith, few-events rest)
 
 module _ (trace area : List ℕ) (accepts : traceCheck trace area ≡ Passed) where

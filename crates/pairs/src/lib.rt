@@ -60,7 +60,8 @@ fn any_lost(
     found
 }
 
-// The place after the eights in front in which it may lose no byte, of the n from `at` on.
+// The n bytes from `at` on are looked at eight by eight: the first place of the first eight in which it may lose one, or the place after
+// the last whole eight.
 fn skip_lost(
     stored: &[u16; 4096],
     closed: &[u16; 4096],

@@ -6,14 +6,14 @@ use Prim.Native.Nat.{ℕ, suc, _+_, _*_, _≤_}
 use native.Mathlib.Omega.{arith}
 use lib.ListN.{length, take, drop}
 use lib.Seq.{paste-zero, take-at}
-use Rattle.event.specs.declared.Record.{Record as Event}
+use Rattle.event.specs.declared.Record.{Record}
 use Rattle.event.specs.declared.Finding.{Finding}
 use Rattle.event.specs.declared.Refusal.{Refusal}
 use Rattle.event.specs.declared.Check.{Check}
 use Rattle.event.specs.declared.Check.the-variants.{Passed as Fits, Refused as Breaks}
 use Rattle.event.specs.declared.Answer.the-variants.{Refused, Found}
 use Rattle.event.specs.declared.Parsed.{Parsed}
-use Rattle.event.specs.declared.Parsed.the-variants.{Record, Refused as Unread}
+use Rattle.event.specs.declared.Parsed.the-variants.{Read, Refused as Unread}
 use Rattle.codec.specs.Codec.{findingBytes, findingSize}
 use Rattle.window.specs.Window.{mostLines}
 use Rattle.history.specs.History.{History}
@@ -42,7 +42,7 @@ use Rattle.record_step.proofs.Placed.{placed-length, both-placed}
 use Rattle.pass.specs.Pass.{recordsJudged}
 
 -- the limits of an event that the run answers
-refused-check : (lines : ℕ) (h : History) (r : Event) {x : Refusal} → answerOf lines h r ≡ Refused x → refusalBy (ofHistory lines h) (r .event) ≡ Breaks x
+refused-check : (lines : ℕ) (h : History) (r : Record) {x : Refusal} → answerOf lines h r ≡ Refused x → refusalBy (ofHistory lines h) (r .event) ≡ Breaks x
 unfolding answerOf
 refused-check lines h r {x} a = go (refusalBy (ofHistory lines h) (r .event)) a
   where
@@ -50,7 +50,7 @@ refused-check lines h r {x} a = go (refusalBy (ofHistory lines h) (r .event)) a
     go Fits k = let z : _≡_ {A = ℕ} 0 1 = cc in absurd (omega arith)
     go (Breaks y) k = cc
 
-found-check : (lines : ℕ) (h : History) (r : Event) {f : Finding} → answerOf lines h r ≡ Found f → refusalBy (ofHistory lines h) (r .event) ≡ Fits
+found-check : (lines : ℕ) (h : History) (r : Record) {f : Finding} → answerOf lines h r ≡ Found f → refusalBy (ofHistory lines h) (r .event) ≡ Fits
 unfolding answerOf
 found-check lines h r {f} a = go (refusalBy (ofHistory lines h) (r .event)) a
   where
@@ -65,7 +65,7 @@ whole lines h run records at d =
     (take at d ++ findingsBytes (eventsOf records) (answers lines h (eventsOf records)) ++ drop (at + findingSize * length records) d)
 
 -- an accepted record: its finding is put into the buffer, and the pass goes on from the next run
-module _ (lines : ℕ) (h : History) (run : Run) (r : Event) (f : Finding) (rest : List Parsed) (n at : ℕ) (d : List ℕ) where
+module _ (lines : ℕ) (h : History) (run : Run) (r : Record) (f : Finding) (rest : List Parsed) (n at : ℕ) (d : List ℕ) where
   -- the next run
   abbrev next : Run
   next = nextOf run (r .event) f
@@ -76,9 +76,9 @@ module _ (lines : ℕ) (h : History) (run : Run) (r : Event) (f : Finding) (rest
 
   -- it ends where the pass over the others ends
   one-more : answerOf lines h r ≡ Found f → giveOf run r ≡ record { answer = Found f; run = next } →
-      at + findingSize * length (Record r ∷ rest) ≤ length d →
+      at + findingSize * length (Read r ∷ rest) ≤ length d →
       recordsJudged rest (suc n) (at + findingSize) (stage next found) .stage ≡ whole lines (r ∷ h) next rest (at + findingSize) found →
-      recordsJudged (Record r ∷ rest) n at (stage run d) .stage ≡ whole lines h run (Record r ∷ rest) at d
+      recordsJudged (Read r ∷ rest) n at (stage run d) .stage ≡ whole lines h run (Read r ∷ rest) at d
   unfolding recordsJudged runAfter eventsOf answers findingsBytes
   one-more a g inside e =
       let bytes = findingBytes f (r .site) in
@@ -94,7 +94,7 @@ same-check : (lines : ℕ) → lines ≤ mostLines → (n : ℕ) (h : History) (
 unfolding recordsJudged checkFrom
 same-check lines m n h run [] at d k = rw (k .tracks .nesting)
 same-check lines m n h run (Unread x ∷ rest) at d k = refl
-same-check lines m n h run (Record r ∷ rest) at d k =
+same-check lines m n h run (Read r ∷ rest) at d k =
     go (answered lines h run r view) (λ next e j. same-check lines m (suc n) (r ∷ h) next rest (at + findingSize) e j)
   where
     view : ofRun run ≡ ofHistory lines h
@@ -103,7 +103,7 @@ same-check lines m n h run (Record r ∷ rest) at d k =
     go : Answered lines h run r →
         ((next : Run) (e : List ℕ) → Follows lines (r ∷ h) next →
         recordsJudged rest (suc n) (at + findingSize) (stage next e) .check ≡ checkFrom lines (suc n) (r ∷ h) rest) →
-        recordsJudged (Record r ∷ rest) n at (stage run d) .check ≡ checkFrom lines n h (Record r ∷ rest)
+        recordsJudged (Read r ∷ rest) n at (stage run d) .check ≡ checkFrom lines n h (Read r ∷ rest)
     go (Answered.refused {x = x} a g) more = rw (recordAnswer, g, refused-check lines h r a)
     go (Answered.found {f = f} t a g) more =
         rw (recordAnswer, g, found-check lines h r a) (more (nextOf run (r .event) f) (placed at (findingBytes f (r .site)) d) (follows-next lines m h run k view r t f))
@@ -115,7 +115,7 @@ passes : (lines : ℕ) → lines ≤ mostLines → (n : ℕ) (h : History) (run 
 unfolding recordsJudged runAfter eventsOf answers findingsBytes checkFrom
 passes lines m n h run [] at d k check inside = ap (stage run) (paste-zero d at [])
 passes lines m n h run (Unread x ∷ rest) at d k check inside = let z : _≡_ {A = ℕ} 0 1 = cc in absurd (omega arith)
-passes lines m n h run (Record r ∷ rest) at d k check inside =
+passes lines m n h run (Read r ∷ rest) at d k check inside =
     go (answered lines h run r view) (λ next e j l. passes lines m (suc n) (r ∷ h) next rest (at + findingSize) e j (taken .1) (omega arith))
   where
     view : ofRun run ≡ ofHistory lines h
@@ -127,7 +127,7 @@ passes lines m n h run (Record r ∷ rest) at d k check inside =
     go : Answered lines h run r →
         ((next : Run) (e : List ℕ) → Follows lines (r ∷ h) next → length e ≡ length d →
         recordsJudged rest (suc n) (at + findingSize) (stage next e) .stage ≡ whole lines (r ∷ h) next rest (at + findingSize) e) →
-        recordsJudged (Record r ∷ rest) n at (stage run d) .stage ≡ whole lines h run (Record r ∷ rest) at d
+        recordsJudged (Read r ∷ rest) n at (stage run d) .stage ≡ whole lines h run (Read r ∷ rest) at d
     go (Answered.refused {x = x} a g) more =
         let c = refused-check lines h r a in let z : _≡_ {A = ℕ} 0 1 = cc in absurd (omega arith)
     go (Answered.found {f = f} t a g) more =

@@ -16,28 +16,28 @@ use Rattle.trace.specs.Records.{recordsOf}
 use Rattle.record_step.specs.Step.{Stage, stage, recordAnswer, recordGiven}
 
 -- where the records lead, and whether one of them is refused, or the closing
-pub record Ended : Type 0 where
+pub record Result : Type 0 where
   pub check : TraceCheck
   pub stage : Stage
 
-abbrev pub ended : TraceCheck → Stage → Ended
-ended check stage = record { check = check; stage = stage }
+abbrev pub result : TraceCheck → Stage → Result
+result check stage = record { check = check; stage = stage }
 
 -- the closing: 13 where a transaction is open
 abbrev pub closing : Stage → TraceCheck
 closing s = cond (eqb (s .run .counts .depth) 0) Passed (RefusedAt TransactionOpen 0)
 
 -- a record with this number that got this answer: it is refused, or the others are given
-abbrev pub afterAnswer : Answer → ℕ → Stage → Ended → Ended
-afterAnswer (Refused x) n s others = ended (RefusedAt x n) s
+abbrev pub afterAnswer : Answer → ℕ → Stage → Result → Result
+afterAnswer (Refused x) n s others = result (RefusedAt x n) s
 afterAnswer (Found f) n s others = others
 
 -- the records from number n on, the first finding at a place
-unfoldable pub recordsJudged : List Parsed → (n at : ℕ) → Stage → Ended
-recordsJudged [] n at s = ended (closing s) s
+unfoldable pub recordsJudged : List Parsed → (n at : ℕ) → Stage → Result
+recordsJudged [] n at s = result (closing s) s
 recordsJudged (p ∷ rest) n at s =
     afterAnswer (recordAnswer p s) n (recordGiven p at s) (recordsJudged rest (suc n) (at + findingSize) (recordGiven p at s))
 
 -- so many records from a fresh window of so many lines, the first finding at the start of the buffer
-abbrev pub allJudged : (count lines : ℕ) (records buffer : List ℕ) → Ended
+abbrev pub allJudged : (count lines : ℕ) (records buffer : List ℕ) → Result
 allJudged count lines records buffer = recordsJudged (recordsOf count records) 1 0 (stage (emptyRun lines) buffer)

@@ -38,7 +38,7 @@ pub fn judge_records(records: &[u8], count: u32, lines: u16, buffer: &mut [u8]) 
     let mut logged = [0u16; 4096];
     let mut opened = [0u16; 4096];
     let mut closed = [0u16; 4096];
-    let mut written = [0u16; 64];
+    let mut dirtied = [0u16; 64];
     let mut backed = [0u16; 64];
     let mut i: u32 = 0;
     while i < count {
@@ -49,7 +49,7 @@ pub fn judge_records(records: &[u8], count: u32, lines: u16, buffer: &mut [u8]) 
             &mut logged,
             &mut opened,
             &mut closed,
-            &mut written,
+            &mut dirtied,
             &mut backed,
             trace::record_at(records, i),
             12 * (i as usize),

@@ -6,6 +6,6 @@ use Rattle.event.specs.Numbers.{numberOf}
 use Rattle.verdict.specs.declared.Verdict.{Verdict}
 use Rattle.verdict.specs.declared.Verdict.the-variants.{Refused, Accepted}
 
-abbrev pub answerOf : Verdict → List ℕ
-answerOf (Refused refusal at) = numberOf refusal ∷ at ∷ 0 ∷ 0 ∷ 0 ∷ []
-answerOf (Accepted events fences findings) = 0 ∷ 0 ∷ events ∷ fences ∷ findings ∷ []
+abbrev pub fiveNumbers : Verdict → List ℕ
+fiveNumbers (Refused refusal at) = numberOf refusal ∷ at ∷ 0 ∷ 0 ∷ 0 ∷ []
+fiveNumbers (Accepted events fences findings) = 0 ∷ 0 ∷ events ∷ fences ∷ findings ∷ []

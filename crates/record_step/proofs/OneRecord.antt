@@ -2,13 +2,13 @@
 use mathlib.Core.Path.{_≡_}
 use mathlib.Core.List.{List}
 use Prim.Native.Nat.{ℕ}
-use Rattle.event.specs.declared.Record.{Record as Event}
+use Rattle.event.specs.declared.Record.{Record}
 use Rattle.event.specs.declared.Finding.{Finding}
 use Rattle.event.specs.declared.Refusal.{Refusal}
 use Rattle.event.specs.declared.Answer.{Answer}
 use Rattle.event.specs.declared.Answer.the-variants.{Refused, Found}
 use Rattle.event.specs.declared.Parsed.{Parsed}
-use Rattle.event.specs.declared.Parsed.the-variants.{Record, Refused as Unread}
+use Rattle.event.specs.declared.Parsed.the-variants.{Read, Refused as Unread}
 use Rattle.codec.specs.Codec.{findingBytes}
 use Rattle.events.specs.declared.Given.{Given}
 use Rattle.events.specs.Give.{giveOf}
@@ -24,6 +24,6 @@ pub unread : {p : Parsed} {x : Refusal} (at : ℕ) (s : Stage) → p ≡ Unread 
 unread at s e = (rw e, rw e)
 
 -- a record whose event was given to the run, and its finding put into the buffer
-pub event-given : {p : Parsed} {r : Event} {g : Given} {next : List ℕ} (at : ℕ) (s : Stage) → p ≡ Record r → g ≡ giveOf (s .run) r →
+pub event-given : {p : Parsed} {r : Record} {g : Given} {next : List ℕ} (at : ℕ) (s : Stage) → p ≡ Read r → g ≡ giveOf (s .run) r →
     next ≡ placedFor (g .answer) (r .site) at (s .buffer) → (g .answer ≡ recordAnswer p s) × (stage (g .run) next ≡ recordGiven p at s)
 event-given at s known given put = (rw (known, given), rw (known, ← given, put))

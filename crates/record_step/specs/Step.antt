@@ -7,7 +7,7 @@ use lib.ListN.{length, take, drop}
 use Rattle.event.specs.declared.Answer.{Answer}
 use Rattle.event.specs.declared.Answer.the-variants.{Refused, Found}
 use Rattle.event.specs.declared.Parsed.{Parsed}
-use Rattle.event.specs.declared.Parsed.the-variants.{Record, Refused as Unread}
+use Rattle.event.specs.declared.Parsed.the-variants.{Read, Refused as Unread}
 use Rattle.codec.specs.Codec.{findingBytes}
 use Rattle.tables.specs.declared.Run.{Run}
 use Rattle.events.specs.Give.{giveOf}
@@ -31,10 +31,10 @@ stage run buffer = record { run = run; buffer = buffer }
 
 -- what one record gets: 6 or 7 from its bytes, or what its event gets
 abbrev pub recordAnswer : Parsed → Stage → Answer
-recordAnswer (Record r) s = giveOf (s .run) r .answer
+recordAnswer (Read r) s = giveOf (s .run) r .answer
 recordAnswer (Unread x) s = Refused x
 
 -- where it leads
 abbrev pub recordGiven : Parsed → ℕ → Stage → Stage
-recordGiven (Record r) at s = stage (giveOf (s .run) r .run) (placedFor (giveOf (s .run) r .answer) (r .site) at (s .buffer))
+recordGiven (Read r) at s = stage (giveOf (s .run) r .run) (placedFor (giveOf (s .run) r .answer) (r .site) at (s .buffer))
 recordGiven (Unread x) at s = s

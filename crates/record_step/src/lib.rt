@@ -38,7 +38,7 @@ pub fn judge_record(
     logged: &mut [u16; 4096],
     opened: &mut [u16; 4096],
     closed: &mut [u16; 4096],
-    written: &mut [u16; 64],
+    dirtied: &mut [u16; 64],
     backed: &mut [u16; 64],
     p: Parsed,
     at: usize,
@@ -49,18 +49,18 @@ pub fn judge_record(
         recordAnswer p
         (stage
         (runOf counts (now (stored .entry)) (now (logged .entry)) (now (opened .entry)) (now (closed .entry))
-        (now (written .entry)) (now (backed .entry)))
+        (now (dirtied .entry)) (now (backed .entry)))
         (now (buffer .entry)))
         ⌝ }
     ensures { λ s. ⌜
         stage
         (runOf (s .counts) (now (stored .exit)) (now (logged .exit)) (now (opened .exit)) (now (closed .exit))
-        (now (written .exit)) (now (backed .exit)))
+        (now (dirtied .exit)) (now (backed .exit)))
         (now (buffer .exit)) ≡
         recordGiven p at
         (stage
         (runOf counts (now (stored .entry)) (now (logged .entry)) (now (opened .entry)) (now (closed .entry))
-        (now (written .entry)) (now (backed .entry)))
+        (now (dirtied .entry)) (now (backed .entry)))
         (now (buffer .entry)))
         ⌝ }
 {
@@ -69,8 +69,8 @@ pub fn judge_record(
             answer: Answer::Refused(x),
             counts,
         },
-        Parsed::Record(r) => {
-            let s = events::step(counts, stored, logged, opened, closed, written, backed, r);
+        Parsed::Read(r) => {
+            let s = events::step(counts, stored, logged, opened, closed, dirtied, backed, r);
             let answer = s.answer;
             put_found(buffer, at, answer, r.site);
             s

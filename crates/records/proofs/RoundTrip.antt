@@ -11,9 +11,9 @@ use borrow.Author.Tests.{eqb-true, leb-true}
 use Rattle.event.specs.declared.Range.{Range}
 use Rattle.event.specs.declared.Event.{Event}
 use Rattle.event.specs.declared.Event.the-variants.{Store, WriteBack, Fence, Begin, Log, End, Persisted, Ordered}
-use Rattle.event.specs.declared.Record.{Record as EventRecord}
+use Rattle.event.specs.declared.Record.{Record}
 use Rattle.event.specs.declared.Parsed.{Parsed}
-use Rattle.event.specs.declared.Parsed.the-variants.{Record, Refused}
+use Rattle.event.specs.declared.Parsed.the-variants.{Read, Refused}
 use Rattle.event.specs.declared.Refusal.the-variants.{UnknownKind, FieldSet}
 use Rattle.event.specs.Numbers.{kindOf}
 use Rattle.window.specs.Window.{rangesOf}
@@ -23,7 +23,7 @@ use Rattle.event.proofs.Bools.{contradiction, and-left, and-right}
 use Rattle.codec.proofs.Meaning.{u16-round-trip, u16-bytes}
 use Rattle.records.proofs.Meaning.{kind-of-event}
 
-pub read-back : (e : Event) (site : ℕ) → parsed (recordBytes e site) ≡ Record (record { event = e; site = site })
+pub read-back : (e : Event) (site : ℕ) → parsed (recordBytes e site) ≡ Read (record { event = e; site = site })
 read-back (Store a) site = simp u16-round-trip
 read-back (WriteBack a) site = simp u16-round-trip
 read-back Fence site = simp u16-round-trip
@@ -40,18 +40,18 @@ pub record ReadFrom (s : List ℕ) (e : Event) (site : ℕ) : Type 0 where
   pub event : e ≡ eventOf (getD s 0 0) (rangeAt s 2) (rangeAt s 6)
   pub from : site ≡ u16At s 10
 
-same-record : (x y : EventRecord) → Record x ≡ Record y → x ≡ y
+same-record : (x y : Record) → Read x ≡ Read y → x ≡ y
 same-record x y k = cc
 
-read-from : (s : List ℕ) (e : Event) (site : ℕ) → parsed s ≡ Record (record { event = e; site = site }) → ReadFrom s e site
+read-from : (s : List ℕ) (e : Event) (site : ℕ) → parsed s ≡ Read (record { event = e; site = site }) → ReadFrom s e site
 read-from s e site k = go (isKind (getD s 0 0)) refl (isClear (getD s 0 0) (getD s 1 0) (rangeAt s 2) (rangeAt s 6)) refl k
   where
     found : Parsed
-    found = Record (record { event = eventOf (getD s 0 0) (rangeAt s 2) (rangeAt s 6); site = u16At s 10 })
+    found = Read (record { event = eventOf (getD s 0 0) (rangeAt s 2) (rangeAt s 6); site = u16At s 10 })
 
     go : (b : Bool) → isKind (getD s 0 0) ≡ b → (c : Bool) → isClear (getD s 0 0) (getD s 1 0) (rangeAt s 2) (rangeAt s 6) ≡ c →
-        cond b (cond c found (Refused FieldSet)) (Refused UnknownKind) ≡ Record (record { event = e; site = site }) → ReadFrom s e site
-    go true p true q k = let same = same-record _ _ (sym k) in record { known = p; clear = q; event = ap (λ (r : EventRecord). r .event) same; from = ap (λ (r : EventRecord). r .site) same }
+        cond b (cond c found (Refused FieldSet)) (Refused UnknownKind) ≡ Read (record { event = e; site = site }) → ReadFrom s e site
+    go true p true q k = let same = same-record _ _ (sym k) in record { known = p; clear = q; event = ap (λ (r : Record). r .event) same; from = ap (λ (r : Record). r .site) same }
     go true p false q k = let z : _≡_ {A = ℕ} 0 1 = cc in absurd (omega arith)
     go false p c q k = let z : _≡_ {A = ℕ} 0 1 = cc in absurd (omega arith)
 
@@ -86,7 +86,7 @@ abbrev bytes : ℕ → ℕ → Range → Range → ℕ → List ℕ
 bytes kind clear a b site = kind ∷ clear ∷ rangeBytes a ++ rangeBytes b ++ u16Bytes site
 
 -- the first 12 bytes of what is accepted are the bytes of the record that is read
-pub accepted-bytes : (s : List ℕ) (e : Event) (site : ℕ) → ((i : ℕ) → getD s i 0 < 256) → parsed s ≡ Record (record { event = e; site = site }) →
+pub accepted-bytes : (s : List ℕ) (e : Event) (site : ℕ) → ((i : ℕ) → getD s i 0 < 256) → parsed s ≡ Read (record { event = e; site = site }) →
     recordBytes e site ≡ padded 12 s
 accepted-bytes s e site small k = (λ i. bytes (kind i) (clear i) (first i) (second i) (x .from i)) ∙ (λ i. laid i)
   where

@@ -9,7 +9,7 @@ use Rattle.event.specs.declared.Event.{Event}
 use Rattle.event.specs.declared.Event.the-variants.{Store, WriteBack, Fence, Begin, Log, End, Persisted, Ordered}
 use Rattle.event.specs.declared.Refusal.the-variants.{UnknownKind, FieldSet}
 use Rattle.event.specs.declared.Parsed.{Parsed}
-use Rattle.event.specs.declared.Parsed.the-variants.{Record, Refused}
+use Rattle.event.specs.declared.Parsed.the-variants.{Read, Refused}
 use Rattle.event.specs.Numbers.{kindOf}
 use Rattle.window.specs.Window.{rangesOf}
 use Rattle.codec.specs.Codec.{u16At, u16Bytes}
@@ -61,7 +61,7 @@ parsed s =
     let kind = getD s 0 0 in
     cond (isKind kind)
     (cond (isClear kind (getD s 1 0) (rangeAt s 2) (rangeAt s 6))
-    (Record (record { event = eventOf kind (rangeAt s 2) (rangeAt s 6); site = u16At s 10 }))
+    (Read (record { event = eventOf kind (rangeAt s 2) (rangeAt s 6); site = u16At s 10 }))
     (Refused FieldSet))
     (Refused UnknownKind)
 

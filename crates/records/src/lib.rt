@@ -117,7 +117,7 @@ fn read_whole(s: &[u8]) -> Parsed
     if !is_clear(kind, s[1], a, b) {
         return Parsed::Refused(Refusal::FieldSet);
     }
-    Parsed::Record(Record {
+    Parsed::Read(Record {
         event: event_of(kind, a, b),
         site: u16_in(s, 10),
     })

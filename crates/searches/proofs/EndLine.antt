@@ -13,23 +13,23 @@ use Rattle.tables.specs.Table.{entry}
 use Rattle.searches.specs.Tests.{searched, passing, lostAtEnd}
 use Rattle.searches.proofs.Searched.{lowest-none, lowest-same}
 
-module _ (begin : ℕ) (stored closed written : List ℕ) (l : ℕ) where
+module _ (begin : ℕ) (stored closed dirtied : List ℕ) (l : ℕ) where
   -- a line not stored to since the begin has nothing
-  pub line-unstored : entry written l ≤ begin → lowest (lostAtEnd begin stored closed written) (l * 64) 64 ≡ none
+  pub line-unstored : entry dirtied l ≤ begin → lowest (lostAtEnd begin stored closed dirtied) (l * 64) 64 ≡ none
   line-unstored h =
-      lowest-none (lostAtEnd begin stored closed written) 64 (l * 64)
-      (λ k a b. let line : lineOf k ≡ l = omega arith in rw (line, le-ltb begin (entry written l) h))
+      lowest-none (lostAtEnd begin stored closed dirtied) 64 (l * 64)
+      (λ k a b. let line : lineOf k ≡ l = omega arith in rw (line, le-ltb begin (entry dirtied l) h))
 
   -- in another one the bytes decide
-  line-stored : begin < entry written l →
-      lowest (passing (OpenSince begin) stored closed) (l * 64) 64 ≡ lowest (lostAtEnd begin stored closed written) (l * 64) 64
+  line-stored : begin < entry dirtied l →
+      lowest (passing (OpenSince begin) stored closed) (l * 64) 64 ≡ lowest (lostAtEnd begin stored closed dirtied) (l * 64) 64
   line-stored h =
-      lowest-same (passing (OpenSince begin) stored closed) (lostAtEnd begin stored closed written) 64 (l * 64)
-      (λ k a b. let line : lineOf k ≡ l = omega arith in rw (line, lt-ltb begin (entry written l) h))
+      lowest-same (passing (OpenSince begin) stored closed) (lostAtEnd begin stored closed dirtied) 64 (l * 64)
+      (λ k a b. let line : lineOf k ≡ l = omega arith in rw (line, lt-ltb begin (entry dirtied l) h))
 
   -- which are searched from the line's start on
-  pub line-searched : begin < entry written l → l < 64 → {at : ℕ} {s : Search} → at ≡ lineStart l →
-      s ≡ searched (lowest (passing (OpenSince begin) stored closed) at 64) → s ≡ searched (lowest (lostAtEnd begin stored closed written) (l * 64) 64)
+  pub line-searched : begin < entry dirtied l → l < 64 → {at : ℕ} {s : Search} → at ≡ lineStart l →
+      s ≡ searched (lowest (passing (OpenSince begin) stored closed) at 64) → s ≡ searched (lowest (lostAtEnd begin stored closed dirtied) (l * 64) 64)
   line-searched h low {at} start found =
       let at-line : at ≡ l * 64 = start ∙ rw (lt-ltb l 64 low) in
       rw at-line at found ∙ ap searched (line-stored h)

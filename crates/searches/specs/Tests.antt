@@ -27,10 +27,11 @@ abbrev pub isFound : Option ℕ → Bool
 isFound none = false
 isFound (some x) = true
 
--- the place after the eights in front in which nothing passes, of so many from a place on
+-- so many times eight numbers from a place on, looked at eight by eight: the place of the first eight of which one passes, or the place
+-- after them all
 unfoldable pub skipped : (ℕ → Bool) → ℕ → ℕ → ℕ
 skipped p at zero = at
-skipped p at (suc eights) = let rest = skipped p (at + 8) eights in cond (isFound (lowest p at 8)) at rest
+skipped p at (suc n) = let rest = skipped p (at + 8) n in cond (isFound (lowest p at 8)) at rest
 
 -- the entries of a byte or a line in two tables are what the test looks for: an event after this one in the first; none after it;
 -- a store after it, and no closing epoch in the second; no closing epoch; no store in the first, or none since the last write-back in the second
@@ -46,5 +47,5 @@ abbrev pub passing : Test → (xs ys : List ℕ) → ℕ → Bool
 passing test xs ys b = passesBy test (entry xs b) (entry ys b)
 
 -- the byte was stored to since the begin, by its line's last store and by its own, and is not closed
-abbrev pub lostAtEnd : (begin : ℕ) → (stored closed written : List ℕ) → ℕ → Bool
-lostAtEnd begin stored closed written b = ltb begin (entry written (lineOf b)) && passing (OpenSince begin) stored closed b
+abbrev pub lostAtEnd : (begin : ℕ) → (stored closed dirtied : List ℕ) → ℕ → Bool
+lostAtEnd begin stored closed dirtied b = ltb begin (entry dirtied (lineOf b)) && passing (OpenSince begin) stored closed b

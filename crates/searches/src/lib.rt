@@ -66,7 +66,8 @@ pub fn any_of_eight(test: Test, xs: &[u16; 64], ys: &[u16; 64], at: usize) -> bo
     }
 }
 
-// The place after the eights in front that have no such byte or line, of the n from `at` on.
+// The n entries from `at` on are looked at eight by eight: the first place of the first eight with such a byte or line, or the place after
+// the last whole eight.
 fn skip(test: Test, xs: &[u16], ys: &[u16], at: usize, n: usize) -> usize
     requires { ⌜ (at + n ≤ 4096) × (at + n ≤ length (now xs)) × (at + n ≤ length (now ys)) ⌝ }
     ensures { λ r. ⌜ r ≡ skipped (passing test (now (xs .entry)) (now (ys .entry))) at (n / 8) ⌝ }
@@ -179,13 +180,13 @@ pub fn first_since_begin(
     counts: Counts,
     stored: &[u16; 4096],
     closed: &[u16; 4096],
-    written: &[u16; 64],
+    dirtied: &[u16; 64],
 ) -> Search
     ensures { λ r. ⌜
         r ≡
         searched
         (lowest
-        (lostAtEnd (counts .begin) (now (stored .entry)) (now (closed .entry)) (now (written .entry)))
+        (lostAtEnd (counts .begin) (now (stored .entry)) (now (closed .entry)) (now (dirtied .entry)))
         0
         (windowBytes (linesOf counts)))
         ⌝ }
@@ -194,7 +195,7 @@ pub fn first_since_begin(
     let lines = tables::lines_of(counts) as usize;
     let mut l = 0;
     while l < lines {
-        if begin < written[l] {
+        if begin < dirtied[l] {
             let at = window::line_start(l as u16) as usize;
             match first(Test::OpenSince(begin), stored, closed, at, 64) {
                 Search::Nothing => {}

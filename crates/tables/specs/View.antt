@@ -14,9 +14,9 @@ use Rattle.tables.specs.declared.Run.{Run}
 use Rattle.tables.specs.Table.{entry}
 
 -- the run with these numbers and these tables
-abbrev pub runOf : Counts → (stored logged opened closed written backed : List ℕ) → Run
-runOf counts stored logged opened closed written backed =
-    record { counts = counts; stored = stored; logged = logged; opened = opened; closed = closed; written = written; backed = backed }
+abbrev pub runOf : Counts → (stored logged opened closed dirtied backed : List ℕ) → Run
+runOf counts stored logged opened closed dirtied backed =
+    record { counts = counts; stored = stored; logged = logged; opened = opened; closed = closed; dirtied = dirtied; backed = backed }
 
 -- no event yet
 abbrev pub noCounts : ℕ → Counts
@@ -49,8 +49,8 @@ ofRun run =
       latestStore = run .counts .store;
       lastStore = entry (run .stored);
       lastLog = entry (run .logged);
-      storedSince = λ b. ltb (run .counts .begin) (entry (run .written) (lineOf b)) && ltb (run .counts .begin) (entry (run .stored) b);
+      storedSince = λ b. ltb (run .counts .begin) (entry (run .dirtied) (lineOf b)) && ltb (run .counts .begin) (entry (run .stored) b);
       interval = λ b. intervalFrom (entry (run .stored) b) (entry (run .opened) b) (entry (run .closed) b);
-      lineStore = entry (run .written);
+      lineStore = entry (run .dirtied);
       lineBack = entry (run .backed);
     }

@@ -24,7 +24,7 @@ pub struct Run {
     pub logged: [u16; 4096], // a byte's last log
     pub opened: [u16; 4096], // the epoch at which its interval opened
     pub closed: [u16; 4096], // the epoch at which it closed, 0 while it is open
-    pub written: [u16; 64], // the last store to a line
+    pub dirtied: [u16; 64], // the last store to a line
     pub backed: [u16; 64], // the last write-back of a line
 }
 

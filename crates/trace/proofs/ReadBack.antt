@@ -6,8 +6,8 @@ use Prim.Native.Nat.{ℕ, _+_, _*_, _≤_}
 use native.Mathlib.Omega.{arith}
 use lib.ListN.{length, length-append}
 use borrow.Author.Tests.{le-ltb, eq-eqb}
-use Rattle.event.specs.declared.Record.{Record as Event}
-use Rattle.event.specs.declared.Parsed.the-variants.{Record}
+use Rattle.event.specs.declared.Record.{Record}
+use Rattle.event.specs.declared.Parsed.the-variants.{Read}
 use Rattle.window.specs.Window.{badLines}
 use Rattle.records.specs.Record.{recordSize}
 use Rattle.records.proofs.RoundTrip.{read-back}
@@ -20,24 +20,24 @@ use Rattle.trace.specs.Records.{recordPart, recordsOf, eventsOf, linesIn
 use Rattle.trace.specs.Layout.{recordsBytes, traceBytes}
 
 -- records have 12 bytes each
-records-length : (events : List Event) → length (recordsBytes events) ≡ recordSize * length events
+records-length : (events : List Record) → length (recordsBytes events) ≡ recordSize * length events
 unfolding recordsBytes
 records-length [] = refl
 records-length (r ∷ rest) = let e : length (recordsBytes rest) ≡ recordSize * length rest = records-length rest in omega arith
 
 -- the bytes of records are read back
-records-read-back : (events : List Event) → recordsOf (length events) (recordsBytes events) ≡ map Record events
+records-read-back : (events : List Record) → recordsOf (length events) (recordsBytes events) ≡ map Read events
 unfolding recordsBytes recordsOf
 records-read-back [] = refl
 records-read-back (r ∷ rest) = λ i. read-back (r .event) (r .site) i ∷ records-read-back rest i
 
 -- the events of records that can be read
-events-of-records : (events : List Event) → eventsOf (map Record events) ≡ events
+events-of-records : (events : List Record) → eventsOf (map Read events) ≡ events
 unfolding eventsOf
 events-of-records [] = refl
-events-of-records (r ∷ rest) = ap (λ (l : List Event). r ∷ l) (events-of-records rest)
+events-of-records (r ∷ rest) = ap (λ (l : List Record). r ∷ l) (events-of-records rest)
 
-module _ (free : List ℕ) (events : List Event) (lines : ℕ) where
+module _ (free : List ℕ) (events : List Record) (lines : ℕ) where
   -- the trace
   abbrev s : List ℕ
   s = traceBytes free events lines
@@ -75,7 +75,7 @@ module _ (free : List ℕ) (events : List Event) (lines : ℕ) where
       )
 
   -- its records, their events and its lines are read
-  pub records-read : recordsIn s ≡ map Record events
+  pub records-read : recordsIn s ≡ map Read events
   records-read = rw (trailer-read, record-part) (records-read-back events)
 
   pub events-read : eventsIn s ≡ events

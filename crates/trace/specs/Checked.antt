@@ -7,7 +7,7 @@ use Rattle.event.specs.declared.Refusal.the-variants.{TransactionOpen}
 use Rattle.event.specs.declared.Check.{Check}
 use Rattle.event.specs.declared.Check.the-variants.{Passed as Fits, Refused as Breaks}
 use Rattle.event.specs.declared.Parsed.{Parsed}
-use Rattle.event.specs.declared.Parsed.the-variants.{Record, Refused as Unread}
+use Rattle.event.specs.declared.Parsed.the-variants.{Read, Refused as Unread}
 use Rattle.history.specs.History.{History}
 use Rattle.history.specs.Transaction.{depth}
 use Rattle.history.specs.View.{ofHistory}
@@ -25,7 +25,7 @@ unlessBroken (Breaks x) n rest = Refused x n
 unfoldable pub checkFrom : (lines n : ℕ) → History → List Parsed → TraceCheck
 checkFrom lines n h [] = cond (eqb (depth h) 0) Passed (Refused TransactionOpen 0)
 checkFrom lines n h (Unread x ∷ rest) = Refused x n
-checkFrom lines n h (Record r ∷ rest) = unlessBroken (refusalBy (ofHistory lines h) (r .event)) n (checkFrom lines (suc n) (r ∷ h) rest)
+checkFrom lines n h (Read r ∷ rest) = unlessBroken (refusalBy (ofHistory lines h) (r .event)) n (checkFrom lines (suc n) (r ∷ h) rest)
 
 -- all records of a trace, from a fresh window
 abbrev pub checkAll : ℕ → List Parsed → TraceCheck

@@ -2,9 +2,9 @@
 use mathlib.Core.List.{List, [], _∷_}
 use Prim.Native.Nat.{ℕ, zero, suc, _-_}
 use lib.ListN.{length, take, drop}
-use Rattle.event.specs.declared.Record.{Record as Event}
+use Rattle.event.specs.declared.Record.{Record}
 use Rattle.event.specs.declared.Parsed.{Parsed}
-use Rattle.event.specs.declared.Parsed.the-variants.{Record, Refused}
+use Rattle.event.specs.declared.Parsed.the-variants.{Read, Refused}
 use Rattle.records.specs.Record.{recordSize, parsed}
 use Rattle.trailer.specs.Trailer.{trailerSize, trailerOf}
 
@@ -18,9 +18,9 @@ recordsOf zero s = []
 recordsOf (suc n) s = parsed (take recordSize s) ∷ recordsOf n (drop recordSize s)
 
 -- the events of those that can be read, each with its site
-unfoldable pub eventsOf : List Parsed → List Event
+unfoldable pub eventsOf : List Parsed → List Record
 eventsOf [] = []
-eventsOf (Record r ∷ rest) = r ∷ eventsOf rest
+eventsOf (Read r ∷ rest) = r ∷ eventsOf rest
 eventsOf (Refused x ∷ rest) = eventsOf rest
 
 -- the lines of a trace's window, its records, and their events
@@ -30,5 +30,5 @@ linesIn s = trailerOf s .lines
 abbrev pub recordsIn : List ℕ → List Parsed
 recordsIn s = recordsOf (trailerOf s .count) (recordPart (trailerOf s .offset) s)
 
-abbrev pub eventsIn : List ℕ → List Event
+abbrev pub eventsIn : List ℕ → List Record
 eventsIn s = eventsOf (recordsIn s)

@@ -5,7 +5,7 @@ use Prim.Native.Nat.{ℕ, suc, _*_}
 use native.Mathlib.Omega.{arith}
 use lib.ListN.{length}
 use Rattle.event.specs.declared.Parsed.{Parsed}
-use Rattle.event.specs.declared.Parsed.the-variants.{Record, Refused as Unread}
+use Rattle.event.specs.declared.Parsed.the-variants.{Read, Refused as Unread}
 use Rattle.codec.specs.Codec.{findingSize}
 use Rattle.history.specs.History.{History}
 use Rattle.history.specs.View.{ofHistory}
@@ -22,7 +22,7 @@ pub findings-size : (lines n : ℕ) (h : History) (records : List Parsed) → ch
 unfolding checkFrom eventsOf answers findingsBytes answerOf
 findings-size lines n h [] check = omega arith
 findings-size lines n h (Unread x ∷ rest) check = let z : _≡_ {A = ℕ} 0 1 = cc in absurd (omega arith)
-findings-size lines n h (Record r ∷ rest) check =
+findings-size lines n h (Read r ∷ rest) check =
     let taken = unless-passed (refusalBy (ofHistory lines h) (r .event)) n (checkFrom lines (suc n) (r ∷ h) rest) check in
     let more = findings-size lines (suc n) (r ∷ h) rest (taken .1) in
     rw (taken .0) (omega (arith, more))

@@ -1,10 +1,10 @@
-// The window: its size, its lines, what a range covers and which lines it touches, and the limits 4, 8 and 9.
+// The window: its size, its lines, how many of them a range touches, and the limits 4, 8 and 9.
 use event::Check;
 use event::Event;
 use event::Range;
 use event::Refusal;
 ghost use mathlib.Core.Path.{_≡_};
-ghost use Rattle.window.specs.Window.{windowBytes, lineOf, lineStart, rangeEnd, covers, isEmpty, touches, lineCount, isPast, limitsCheck, rangeCheck, linesCheck};
+ghost use Rattle.window.specs.Window.{windowBytes, lineOf, lineStart, rangeEnd, isEmpty, lineCount, isPast, limitsCheck, rangeCheck, linesCheck};
 
 // The start address of each line of the largest window.
 const LINE_STARTS: [u16; 64] = [
@@ -107,29 +107,11 @@ pub fn range_end(r: Range) -> u32
     (r.address as u32) + (r.length as u32)
 }
 
-// Whether the range covers the byte.
-pub fn range_covers(r: Range, byte: u16) -> bool
-    ensures { λ t. ⌜ t ≡ covers r byte ⌝ }
-{
-    r.address <= byte && (byte as u32) < range_end(r)
-}
-
 // Whether the range has no byte.
 pub fn is_empty(r: Range) -> bool
     ensures { λ t. ⌜ t ≡ isEmpty r ⌝ }
 {
     r.length == 0
-}
-
-// Whether the line holds a byte of the range.
-pub fn range_touches(r: Range, line: u16) -> bool
-    ensures { λ t. ⌜ t ≡ touches r line ⌝ }
-{
-    if r.length == 0 {
-        return false;
-    }
-    let last = (range_end(r) - 1) / 64;
-    r.address / 64 <= line && (line as u32) <= last
 }
 
 // How many lines the range touches.

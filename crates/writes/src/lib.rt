@@ -73,17 +73,17 @@ pub fn store(
     stored: &mut [u16; 4096],
     opened: &mut [u16; 4096],
     closed: &mut [u16; 4096],
-    written: &mut [u16; 64],
+    dirtied: &mut [u16; 64],
     a: Range,
 )
     ensures { λ _. ⌜ now (stored .exit) ≡ filledBytes number (inTables a) (now (stored .entry)) ⌝ }
     ensures { λ _. ⌜ now (opened .exit) ≡ filledBytes epoch (inTables a) (now (opened .entry)) ⌝ }
     ensures { λ _. ⌜ now (closed .exit) ≡ filledBytes 0 (inTables a) (now (closed .entry)) ⌝ }
-    ensures { λ _. ⌜ now (written .exit) ≡ filledLines number (inTables a) (now (written .entry)) ⌝ }
+    ensures { λ _. ⌜ now (dirtied .exit) ≡ filledLines number (inTables a) (now (dirtied .entry)) ⌝ }
 {
     let part = tables::in_tables(a);
     fill_stored(stored, opened, closed, part, number, epoch);
-    fill_lines(written, a, number);
+    fill_lines(dirtied, a, number);
 }
 
 // The closing epoch of a byte after a fence that begins an epoch, where its line was last written back at `back`.

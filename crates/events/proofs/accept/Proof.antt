@@ -18,7 +18,7 @@ use Rattle.events.proofs.accept.Tie as tie
 abbrev entry-run : tie.Start → Run
 entry-run s =
     let a = s .args in
-    runOf (a .counts) (a .stored .now) (a .logged .now) (a .opened .now) (a .closed .now) (a .written .now) (a .backed .now)
+    runOf (a .counts) (a .stored .now) (a .logged .now) (a .opened .now) (a .closed .now) (a .dirtied .now) (a .backed .now)
 
 -- one more event has a number
 room : (s : tie.Start) → s .args .counts .events < 65535

@@ -19,7 +19,7 @@ start c = c .before .before
 abbrev entry-run : tie.Start → Run
 entry-run s =
     let a = s .args in
-    runOf (a .counts) (a .stored .now) (a .logged .now) (a .opened .now) (a .closed .now) (a .written .now) (a .backed .now)
+    runOf (a .counts) (a .stored .now) (a .logged .now) (a .opened .now) (a .closed .now) (a .dirtied .now) (a .backed .now)
 
 -- the check says what the run's numbers say
 by-limits : (c : tie.After-check-event) → let a = start c .args in c .check-event .result ≡ refusalBy (limitsOf (a .counts)) (a .r .event)

@@ -5,11 +5,11 @@ use Rattle.judge.proofs.judge_by.Statement.{statement}
 use Rattle.judge.proofs.judge_by.Tie as tie
 use Prim.Native.Nat.{_*_}
 use Rattle.codec.specs.Codec.{findingSize}
-use Rattle.pass.specs.Pass.{Ended, allJudged}
+use Rattle.pass.specs.Pass.{Result, allJudged}
 use Rattle.judge.proofs.Ends.{ends-refused, ends-passed}
 
 -- where the records lead
-abbrev end : tie.Start → Ended
+abbrev end : tie.Start → Result
 end c = let k = c .args in allJudged (k .count) (k .lines) (k .records .now) (k .buffer .now)
 
 judge-records-requires : tie.Need-judge-records-requires

@@ -10,24 +10,24 @@ use borrow.Author.Needs.{needs}
 use Rattle.tables.specs.View.{runOf}
 use Rattle.engine.specs.Call.{emptyRun}
 use Rattle.record_step.specs.Step.{Stage, stage}
-use Rattle.pass.specs.Pass.{Ended}
+use Rattle.pass.specs.Pass.{Result}
 use Rattle.pass.proofs.RecordsLeft.{leftJudged, refused-here, next-judged, all-left, closed-here}
 
 abbrev Inv-loop : tie.InvT-loop
-Inv-loop records count lines buffer₀ counts₀ stored₀ logged₀ opened₀ closed₀ written₀ backed₀ i₀ buffer counts stored logged opened closed written backed i =
+Inv-loop records count lines buffer₀ counts₀ stored₀ logged₀ opened₀ closed₀ dirtied₀ backed₀ i₀ buffer counts stored logged opened closed dirtied backed i =
     (i ≤ count) × (length buffer ≡ length buffer₀) ×
-    (leftJudged records count i (stage (runOf counts stored logged opened closed written backed) buffer) ≡
+    (leftJudged records count i (stage (runOf counts stored logged opened closed dirtied backed) buffer) ≡
     leftJudged records count 0 (stage (emptyRun lines) buffer₀))
 
 abbrev μ-loop : tie.MeasureT-loop
-μ-loop records count lines buffer₀ counts₀ stored₀ logged₀ opened₀ closed₀ written₀ backed₀ i₀ buffer counts stored logged opened closed written backed i =
+μ-loop records count lines buffer₀ counts₀ stored₀ logged₀ opened₀ closed₀ dirtied₀ backed₀ i₀ buffer counts stored logged opened closed dirtied backed i =
     count - i
 
 -- the run and the buffer in the loop
 abbrev passed : tie.At-loop Inv-loop μ-loop → Stage
 passed c =
     let k = c .loop in
-    stage (runOf (k .counts) (k .stored) (k .logged) (k .opened) (k .closed) (k .written) (k .backed)) (k .buffer)
+    stage (runOf (k .counts) (k .stored) (k .logged) (k .opened) (k .closed) (k .dirtied) (k .backed)) (k .buffer)
 
 no-counts-requires : tie.Need-no-counts-requires Inv-loop μ-loop
 no-counts-requires c κs = search needs
@@ -67,7 +67,7 @@ returns c =
     let all =
     refused-here (k .records .now) (k .count) (l .loop .i) (passed l) (omega arith) (w .record-at .ensures) (given .ensures .0) (given .ensures .1)
     (c .before .answer .given .1) ∙ l .loop .inv .2 ∙ all-left (k .records .now) (k .count) (stage (emptyRun (k .lines)) (k .buffer .now)) in
-    (ap (λ (e : Ended). e .check) all, (ap (λ (e : Ended). e .stage .run .counts) all, ap (λ (e : Ended). e .stage .buffer) all))
+    (ap (λ (e : Result). e .check) all, (ap (λ (e : Result). e .stage .run .counts) all, ap (λ (e : Result). e .stage .buffer) all))
 
 enum-told : tie.Need-enum-told Inv-loop μ-loop
 enum-told c = search needs
@@ -100,7 +100,7 @@ returns-2 c =
     let k = c .before .before .before .before .before .before .args in
     let fresh = stage (emptyRun (k .lines)) (k .buffer .now) in
     let all = closed-here (k .records .now) (k .count) (l .i) fresh (passed (c .before .before)) (omega arith) (l .inv .2) in
-    (c .close .ensures ∙ ap (λ (e : Ended). e .check) all, (ap (λ (e : Ended). e .stage .run .counts) all, ap (λ (e : Ended). e .stage .buffer) all))
+    (c .close .ensures ∙ ap (λ (e : Result). e .check) all, (ap (λ (e : Result). e .stage .run .counts) all, ap (λ (e : Result). e .stage .buffer) all))
 
 pub judge-records-spec : {M : Type 1} → statement M
 judge-records-spec =

@@ -11,7 +11,7 @@ use Rattle.record_step.proofs.OneRecord.{unread, event-given}
 abbrev lent : tie.Start → Stage
 lent c =
     let k = c .args in
-    stage (runOf (k .counts) (k .stored .now) (k .logged .now) (k .opened .now) (k .closed .now) (k .written .now) (k .backed .now)) (k .buffer .now)
+    stage (runOf (k .counts) (k .stored .now) (k .logged .now) (k .opened .now) (k .closed .now) (k .dirtied .now) (k .backed .now)) (k .buffer .now)
 
 enum-known-p : tie.Need-enum-known-p
 enum-known-p c = search needs

@@ -16,10 +16,10 @@ use Rattle.searches.proofs.first_since_begin.Statement.{statement}
 use Rattle.searches.proofs.first_since_begin.Tie as tie
 
 abbrev Inv-loop : tie.InvT-loop
-Inv-loop stored closed written begin lines l₀ l = (l ≤ lines) × (left (lostAtEnd begin stored closed written) (0 + windowBytes lines) (l * 64) ≡ left (lostAtEnd begin stored closed written) (0 + windowBytes lines) 0)
+Inv-loop stored closed dirtied begin lines l₀ l = (l ≤ lines) × (left (lostAtEnd begin stored closed dirtied) (0 + windowBytes lines) (l * 64) ≡ left (lostAtEnd begin stored closed dirtied) (0 + windowBytes lines) 0)
 
 abbrev μ-loop : tie.MeasureT-loop
-μ-loop stored closed written begin lines l₀ l = lines - l
+μ-loop stored closed dirtied begin lines l₀ l = lines - l
 
 lines-of-requires : tie.Need-lines-of-requires Inv-loop μ-loop
 lines-of-requires c κs = search needs
@@ -67,7 +67,7 @@ returns c =
     rw (k .before .lines-of .ensures) at
     (part-here _ 0 _ (k .loop .l * 64) (k .loop .inv .1) 64 (omega arith)
     (found-some _ (c .before .b .given .1)
-    (line-searched (a .counts .begin) (a .stored .now) (a .closed .now) (a .written .now) (k .loop .l) (t .if1 .taken) (omega arith)
+    (line-searched (a .counts .begin) (a .stored .now) (a .closed .now) (a .dirtied .now) (k .loop .l) (t .if1 .taken) (omega arith)
     (s .line-start .ensures) (f .first .ensures))))
 
 add-l : tie.Need-add-l Inv-loop μ-loop
@@ -88,8 +88,8 @@ loop-again c =
           (⊎-elim
           (λ w.
           found-none _ (w .4 .given .1)
-          (line-searched (a .counts .begin) (a .stored .now) (a .closed .now) (a .written .now) l (w .0 .taken) (omega arith) (w .1 .ensures) (w .2 .ensures)))
-          (λ w. line-unstored (a .counts .begin) (a .stored .now) (a .closed .now) (a .written .now) l (w .left)) (c .if1 .came))),
+          (line-searched (a .counts .begin) (a .stored .now) (a .closed .now) (a .dirtied .now) l (w .0 .taken) (omega arith) (w .1 .ensures) (w .2 .ensures)))
+          (λ w. line-unstored (a .counts .begin) (a .stored .now) (a .closed .now) (a .dirtied .now) l (w .left)) (c .if1 .came))),
     )
 
 returns-2 : tie.Need-returns-2 Inv-loop μ-loop
