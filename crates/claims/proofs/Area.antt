@@ -17,28 +17,21 @@ use Rattle.history.specs.Given.{Accepted, accepted, answers}
 use Rattle.history.proofs.Given.{answer-found}
 use Rattle.trace.specs.Records.{eventsOf}
 use Rattle.verdict.specs.Verdict.{findingsBytes}
-use Rattle.claims.specs.Traces.{Takes}
+use Rattle.claims.proofs.Records.{Accepts}
 
 -- records that are all taken are events
-pub takes-events : {lines : ℕ} {h : History} {records : List Parsed} {all : History} →
-    Takes lines h records all → records ≡ map Read (eventsOf records)
+pub accepts-events : {lines : ℕ} {h : History} {records : List Parsed} {all : History} →
+    Accepts lines h records all → records ≡ map Read (eventsOf records)
 unfolding eventsOf
-takes-events Takes.done = refl
-takes-events (Takes.takes {r = r} k rest) = ap (λ (l : List Parsed). Read r ∷ l) (takes-events rest)
+accepts-events Accepts.done = refl
+accepts-events (Accepts.takes {r = r} k rest) = ap (λ (l : List Parsed). Read r ∷ l) (accepts-events rest)
 
 -- and these are the accepted ones
-pub takes-accepted : {lines : ℕ} {h : History} {records : List Parsed} {all : History} →
-    Takes lines h records all → accepted lines h (eventsOf records) ≡ all
+pub accepts-accepted : {lines : ℕ} {h : History} {records : List Parsed} {all : History} →
+    Accepts lines h records all → accepted lines h (eventsOf records) ≡ all
 unfolding eventsOf accepted
-takes-accepted Takes.done = refl
-takes-accepted {lines} {h} (Takes.takes {r = r} k rest) = rw (answer-found lines h r k, accepted) (takes-accepted rest)
-
--- their findings take 12 bytes each
-pub findings-length : {lines : ℕ} {h : History} {records : List Parsed} {all : History} →
-    Takes lines h records all → let given = eventsOf records in length (findingsBytes given (answers lines h given)) ≡ findingSize * length given
-unfolding eventsOf answers findingsBytes
-findings-length Takes.done = refl
-findings-length {lines} {h} (Takes.takes {r = r} k rest) = rw (answer-found lines h r k) (omega (arith, findings-length rest))
+accepts-accepted Accepts.done = refl
+accepts-accepted {lines} {h} (Accepts.takes {r = r} k rest) = rw (answer-found lines h r k, accepted) (accepts-accepted rest)
 
 -- to pass n + 1 findings is to pass the first and then n
 past-finding : (f : Finding) (site : ℕ) (bytes : List ℕ) (n : ℕ) →
@@ -55,10 +48,10 @@ pub record Placed (lines : ℕ) (h : History) (before rest : List Record) (r : R
       findingBytes (findingBy (ofHistory lines (accepted lines h before)) (r .event)) (r .site)
 
 pub placed : {lines : ℕ} {h all : History} (before rest : List Record) (r : Record) (after : List ℕ) →
-    Takes lines h (map Read (before ++ r ∷ rest)) all → Placed lines h before rest r after
+    Accepts lines h (map Read (before ++ r ∷ rest)) all → Placed lines h before rest r after
 unfolding accepted answers findingsBytes
-placed {lines} {h} [] rest r after (Takes.takes k more) = record { takes = k; bytes = rw (answer-found lines h r k) refl }
-placed {lines} {h} (b ∷ before) rest r after (Takes.takes k more) =
+placed {lines} {h} [] rest r after (Accepts.takes k more) = record { takes = k; bytes = rw (answer-found lines h r k) refl }
+placed {lines} {h} (b ∷ before) rest r after (Accepts.takes k more) =
     let next = placed before rest r after more in
     let given = before ++ r ∷ rest in
     let bytes = findingsBytes given (answers lines (b ∷ h) given) ++ after in

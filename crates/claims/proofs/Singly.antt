@@ -6,17 +6,17 @@ use mathlib.Core.List.{List, [], _∷_, _++_, map}
 use Prim.Native.Nat.{ℕ, _*_, _≤_}
 use native.Mathlib.Decide.{ℕ-discrete as decEq}
 use native.Mathlib.Omega.{arith}
-use lib.ListN.{length, take, drop, length-append, length-drop, length-map}
+use lib.ListN.{length, take, drop, length-append, length-drop}
 use lib.Seq.{drop-at}
 use borrow.Author.Tests.{ltb-false}
 use Rattle.event.specs.declared.Record.{Record}
-use Rattle.event.specs.declared.Refusal.{Refusal}
 use Rattle.event.specs.declared.Refusal.the-variants.{BadLines}
 use Rattle.event.specs.declared.Check.{Check}
 use Rattle.event.specs.declared.Check.the-variants.{Passed, Refused as Breaks}
 use Rattle.event.specs.declared.Finding.{Finding}
 use Rattle.event.specs.declared.Answer.the-variants.{Found}
 use Rattle.event.specs.declared.Parsed.the-variants.{Read}
+use Rattle.event.specs.Reply.{Reply, checkReply, findingValues, answerReply}
 use Rattle.codec.specs.Codec.{findingBytes, findingSize}
 use Rattle.window.specs.Window.{linesCheck}
 use Rattle.history.specs.History.{History}
@@ -29,19 +29,21 @@ use Rattle.history.specs.Given.{windowFor, windowOf, Accepted, accepted, answer
 use Rattle.events.specs.Give.{giveOf}
 use Rattle.engine.specs.declared.Closing.the-variants.{Totals}
 use Rattle.engine.specs.Call.{closeOf}
+use Rattle.engine.specs.Reply.{givenReply, closingReply}
 use Rattle.trace.specs.declared.TraceCheck.the-variants.{Passed as AllPass}
 use Rattle.trailer.specs.Trailer.{trailerOf}
 use Rattle.trace.specs.Records.{recordPart, linesIn, recordsIn, eventsIn}
 use Rattle.trailer.proofs.Lines.{window-lines}
 use Rattle.trace.proofs.RecordsNext.{records-counted}
-use Rattle.verdict.specs.declared.Verdict.the-variants.{Refused as RefusedAt, Accepted as Totalled}
-use Rattle.verdict.specs.Verdict.{areaSize, traceLimits, traceCheck, historyOf, answersOf, verdictOf, findingsBytes, areaAfter}
+use Rattle.verdict.specs.Verdict.{areaSize, traceLimits, traceCheck, historyOf, answersOf, verdictOf, verdictReply, findingsBytes, areaAfter}
 use Rattle.verdict.proofs.Outcome.{totalled, area-holds}
+use Rattle.verdict.proofs.Size.{findings-size}
 use Rattle.claims.specs.After.{runFrom}
-use Rattle.claims.specs.Traces.{Takes, GivenSingly}
-use Rattle.claims.proofs.Answers.{Limited, limited, same, taken, closing-totals}
-use Rattle.claims.proofs.Traces.{Decided, records-decided, trace-refused, record-refused, trace-open, trace-passed}
-use Rattle.claims.proofs.Area.{takes-events, takes-accepted, findings-length, placed}
+use Rattle.claims.specs.Traces.{TakesAll, GivenSingly}
+use Rattle.claims.proofs.Answers.{Limited, limited, not-refused, same, taken, closing-totals}
+use Rattle.claims.proofs.Records.{Accepts, takes-accepts}
+use Rattle.claims.proofs.Traces.{Decided, records-decided, trace-refused, record-refused, trace-open, records-pass, trace-passed}
+use Rattle.claims.proofs.Area.{accepts-events, accepts-accepted, placed}
 
 module _ (lines : ℕ) (passed : linesCheck lines ≡ Passed) where
   -- a window that is not refused has the lines asked for
@@ -71,25 +73,21 @@ module _ (lines : ℕ) (passed : linesCheck lines ≡ Passed) where
 record AllTaken (trace area : List ℕ) : Type 0 where
   limits : NoneBroken (traceLimits trace area)
   history : History
-  takes : Takes (linesIn trace) [] (recordsIn trace) history
+  takes : TakesAll trace history
   closed : depth history ≡ 0
 
 -- so it is with an accepted trace
-all-taken : (trace area : List ℕ) {events fences findings : ℕ} → verdictOf trace area ≡ Totalled events fences findings →
-    AllTaken trace area
-all-taken trace area {events} {fences} {findings} e = go (limited (traceLimits trace area)) (records-decided (linesIn trace) 1 [] (recordsIn trace))
+all-taken : (trace area totals : List ℕ) → verdictReply (verdictOf trace area) ≡ Reply.values totals → AllTaken trace area
+all-taken trace area totals e = go (limited (traceLimits trace area)) (records-decided (linesIn trace) 1 [] _ _)
   where
-    not-refused : {x : Refusal} {n : ℕ} → verdictOf trace area ≡ RefusedAt x n → ⊥
-    not-refused k = let z : _≡_ {A = ℕ} 0 1 = cc in omega arith
-
-    close : (h : History) → NoneBroken (traceLimits trace area) → Takes (linesIn trace) [] (recordsIn trace) h → Dec (depth h ≡ 0) →
-        AllTaken trace area
+    close : (h : History) → NoneBroken (traceLimits trace area) → TakesAll trace h → Dec (depth h ≡ 0) → AllTaken trace area
     close h k t (yes d) = record { limits = k; history = h; takes = t; closed = d }
-    close h k t (no d) = absurd (not-refused (trace-open trace area k t d .0))
+    close h k t (no d) = absurd (not-refused e (trace-open trace area k t d .0))
 
-    go : Limited (traceLimits trace area) → Decided (linesIn trace) 1 [] (recordsIn trace) → AllTaken trace area
-    go (inl (x, k)) more = absurd (not-refused (trace-refused trace area k .0))
-    go (inr k) (inl (x, n, s)) = absurd (not-refused (record-refused trace area k s .0))
+    go : Limited (traceLimits trace area) → Decided (linesIn trace) 1 [] (trailerOf trace .count) (recordPart (trailerOf trace .offset) trace) →
+        AllTaken trace area
+    go (inl (x, k)) more = absurd (not-refused e (trace-refused trace area k .0))
+    go (inr k) (inl (x, n, s)) = absurd (not-refused e (record-refused trace area k s .0))
     go (inr k) (inr (h, t)) = close h k t (decEq (depth h) 0)
 
 -- limit 4 is not broken: the window is not refused
@@ -107,52 +105,54 @@ module _ (trace area : List ℕ) (t : AllTaken trace area) where
   passes : traceCheck trace area ≡ AllPass
   passes = trace-passed trace area (t .limits) (t .takes) (t .closed)
 
-  -- there are as many events as the trailer counts
-  events-count : length (eventsIn trace) ≡ trailerOf trace .count
-  events-count =
-      sym (length-map (eventsIn trace) Read) ∙ ap length (sym (takes-events (t .takes))) ∙
-      records-counted (trailerOf trace .count) (recordPart (trailerOf trace .offset) trace)
+  -- its records are read and accepted
+  accepts : Accepts (linesIn trace) [] (recordsIn trace) (t .history)
+  accepts = takes-accepts (t .takes)
 
-  -- so their findings take 12 × count bytes
-  findings-size : length (findingsBytes (eventsIn trace) (answersOf trace)) ≡ areaSize trace
-  findings-size = findings-length (t .takes) ∙ ap (λ (n : ℕ). findingSize * n) events-count
+  -- their findings take 12 × count bytes
+  bytes-size : length (findingsBytes (eventsIn trace) (answersOf trace)) ≡ areaSize trace
+  bytes-size =
+      findings-size (linesIn trace) 1 [] (recordsIn trace) (records-pass trace area (t .takes) (t .closed)) ∙
+      ap (λ (n : ℕ). findingSize * n) (records-counted (trailerOf trace .count) (recordPart (trailerOf trace .offset) trace))
 
   -- the area's length and the bytes beyond do not change
   area-size : length (areaAfter trace area) ≡ length area
   area-size =
       let fits = area-fits trace area (t .limits) in
-      rw (area-holds trace area passes, length-append, length-drop, findings-size) (omega arith)
+      rw (area-holds trace area passes, length-append, length-drop, bytes-size) (omega arith)
 
   area-beyond : drop (areaSize trace) (areaAfter trace area) ≡ drop (areaSize trace) area
   area-beyond =
-      rw (area-holds trace area passes) (drop-at (findingsBytes (eventsIn trace) (answersOf trace)) (drop (areaSize trace) area) (areaSize trace) findings-size)
+      rw (area-holds trace area passes) (drop-at (findingsBytes (eventsIn trace) (answersOf trace)) (drop (areaSize trace) area) (areaSize trace) bytes-size)
 
   -- each finding stands at its event's place
   area-finding : (before rest : List Record) (r : Record) → eventsIn trace ≡ before ++ r ∷ rest →
-      (f : Finding) × (giveOf (runFrom (linesIn trace) before) r .answer ≡ Found f) ×
+      (f : Finding) × (givenReply (giveOf (runFrom (linesIn trace) before) r) ≡ Reply.values (findingValues f)) ×
       (take findingSize (drop (findingSize * length before) (areaAfter trace area)) ≡ findingBytes f (r .site))
   area-finding before rest r e =
-      let events : recordsIn trace ≡ map Read (before ++ r ∷ rest) = takes-events (t .takes) ∙ ap (map Read) e in
-      let p = placed before rest r (drop (areaSize trace) area) (rw events at (t .takes)) in (
+      let events : recordsIn trace ≡ map Read (before ++ r ∷ rest) = accepts-events accepts ∙ ap (map Read) e in
+      let p = placed before rest r (drop (areaSize trace) area) (rw events at accepts) in (
         findingBy (ofHistory (linesIn trace) (accepted (linesIn trace) [] before)) (r .event),
-        singly-found (linesIn trace) (window-passed trace area (t .limits)) before r (p .takes),
+        ap answerReply (singly-found (linesIn trace) (window-passed trace area (t .limits)) before r (p .takes)),
         rw (area-holds trace area passes, e) (p .bytes),
       )
 
+  -- the totals are those of closing
+  area-totals : closingReply (closeOf (runFrom (linesIn trace) (eventsIn trace))) ≡ verdictReply (verdictOf trace area)
+  area-totals =
+      let closed : depth (historyOf trace) ≡ 0 = ap depth (accepts-accepted accepts) ∙ t .closed in
+      ap closingReply (singly-totals (linesIn trace) (window-passed trace area (t .limits)) (eventsIn trace) closed) ∙
+      sym (ap verdictReply (totalled trace area passes))
+
 -- the findings and the totals of an accepted trace
-pub given-singly : (trace area : List ℕ) {events fences findings : ℕ} → verdictOf trace area ≡ Totalled events fences findings →
-    GivenSingly trace area events fences findings
-given-singly trace area {events} {fences} {findings} e =
-    let t = all-taken trace area e in
-    let passed = window-passed trace area (t .limits) in
-    let verdict = totalled trace area (passes trace area t) in
-    let closed : depth (historyOf trace) ≡ 0 = ap depth (takes-accepted (t .takes)) ∙ t .closed in
-    let totals = singly-totals (linesIn trace) passed (eventsIn trace) closed in
+pub given-singly : (trace area totals : List ℕ) → verdictReply (verdictOf trace area) ≡ Reply.values totals → GivenSingly trace area totals
+given-singly trace area totals e =
+    let t = all-taken trace area totals e in
     record {
-      records = takes-events (t .takes);
-      window = passed;
+      records = accepts-events (accepts trace area t);
+      window = ap checkReply (window-passed trace area (t .limits));
       finding = area-finding trace area t;
       beyond = area-beyond trace area t;
       size = area-size trace area t;
-      totals = cc;
+      closing = area-totals trace area t ∙ e;
     }

@@ -1,68 +1,74 @@
--- Demand 1, for fresh windows, events, bytes asked, closings and traces: whatever breaks a stated limit is refused by the first
--- number that applies, and by no number otherwise; run and findings area are then what they were.
+-- Demand 1, for fresh windows, events, bytes asked, closings, records and traces: whatever breaks a stated limit is refused by the
+-- first number that applies, and by no number otherwise; run and findings area are then what they were. The numbers 1 to 14 are
+-- document 01's; so is the record's number beside each.
 use mathlib.Core.Path.{_≡_}
 use mathlib.Core.Logic.{_≢_, _⊎_}
-use mathlib.Core.List.{List, [], _∷_, map}
+use mathlib.Core.List.{List, [], _∷_}
 use Prim.Native.Nat.{ℕ, _≤_, _<_}
+use Rattle.event.specs.declared.Event.{Event}
 use Rattle.event.specs.declared.Record.{Record}
 use Rattle.event.specs.declared.Finding.{Finding}
 use Rattle.event.specs.declared.Refusal.{Refusal}
-use Rattle.event.specs.declared.Refusal.the-variants.{BadLines, PastWindow, TransactionOpen}
-use Rattle.event.specs.declared.Check.the-variants.{Passed, Refused as Breaks}
-use Rattle.event.specs.declared.Answer.the-variants.{Refused, Found}
 use Rattle.event.specs.Numbers.{numberOf}
+use Rattle.event.specs.Reply.{Reply, findingValues}
 use Rattle.window.specs.Window.{mostLines, windowBytes}
+use Rattle.records.specs.Record.{recordOf, parsed, recordValues, readReply}
 use Rattle.history.specs.History.{History}
 use Rattle.history.specs.Transaction.{depth}
-use Rattle.history.specs.Refused.{Limit, First, NoneBroken}
+use Rattle.history.specs.View.{ofHistory}
+use Rattle.history.specs.Refused.{limitsBy, numbersOf, First, NoneBroken}
 use Rattle.history.specs.Given.{windowOf, RefusedBy, Accepted}
 use Rattle.events.specs.Give.{giveOf}
-use Rattle.engine.specs.declared.Asked.the-variants.{Refused as AskRefused}
-use Rattle.engine.specs.declared.Closing.the-variants.{Refused as CloseRefused}
 use Rattle.engine.specs.Call.{emptyRun, freshOf, askOf, closeOf}
-use Rattle.trace.specs.Records.{linesIn, recordsIn}
-use Rattle.verdict.specs.declared.Verdict.the-variants.{Refused as RefusedAt}
-use Rattle.verdict.specs.Verdict.{traceLimits, verdictOf}
+use Rattle.engine.specs.Reply.{windowReply, givenReply, askedReply, closingReply}
+use Rattle.trailer.specs.Trailer.{trailerOf, fileLimits, openedOf, openedReply}
+use Rattle.verdict.specs.Verdict.{traceLimits, verdictOf, verdictReply}
 use Rattle.claims.specs.After.{runFrom, takenFrom}
-use Rattle.claims.specs.Traces.{Stops, Takes, Rejected}
+use Rattle.claims.specs.Traces.{readLimits, recordLimits, StopsAt, TakesAll, Rejected}
 
 pub record Demand1 : Type 0 where
-  -- 4: lines outside 1 to 64; a run of one line is handed over
+  -- a fresh window. 4: lines outside 1 to 64; a run of one line is handed over
   pub windowRefused : (asked : ℕ) → (asked ≡ 0) ⊎ (mostLines < asked) →
-      freshOf asked ≡ record { check = Breaks BadLines; run = emptyRun 1 }
+      (windowReply (freshOf asked) ≡ Reply.refused 4 0) × (freshOf asked .run ≡ emptyRun 1)
   pub windowTaken : (asked : ℕ) → 1 ≤ asked → asked ≤ mostLines →
-      freshOf asked ≡ record { check = Passed; run = emptyRun asked }
-  -- 8 to 12: the first that applies after the accepted events; the run is as it was
+      (windowReply (freshOf asked) ≡ Reply.values []) × (freshOf asked .run ≡ emptyRun asked)
+  -- an event given singly: the first of 8, 9, 10, 11, 12 that applies after the accepted events; the run is as it was
+  pub eventNumbers : (lines : ℕ) (h : History) (e : Event) → numbersOf (limitsBy (ofHistory lines h) e) ≡ 8 ∷ 9 ∷ 10 ∷ 11 ∷ 12 ∷ []
   pub eventRefused : (asked : ℕ) (given : List Record) (r : Record) {x : Refusal} → RefusedBy (windowOf asked) (takenFrom asked given) r x →
-      giveOf (runFrom asked given) r ≡ record { answer = Refused x; run = runFrom asked given }
+      (givenReply (giveOf (runFrom asked given) r) ≡ Reply.refused (numberOf x) 0) × (giveOf (runFrom asked given) r .run ≡ runFrom asked given)
   pub eventTaken : (asked : ℕ) (given : List Record) (r : Record) → Accepted (windowOf asked) (takenFrom asked given) r →
-      (f : Finding) × (giveOf (runFrom asked given) r .answer ≡ Found f)
+      (f : Finding) × (givenReply (giveOf (runFrom asked given) r) ≡ Reply.values (findingValues f))
   pub eventDecided : (asked : ℕ) (given : List Record) (r : Record) →
       ((x : Refusal) × RefusedBy (windowOf asked) (takenFrom asked given) r x) ⊎ Accepted (windowOf asked) (takenFrom asked given) r
-  -- 9: an asked byte past the window
+  -- a byte asked. 9: it is past the window
   pub byteRefused : (asked : ℕ) (given : List Record) (byte : ℕ) → windowBytes (windowOf asked) ≤ byte →
-      askOf (runFrom asked given) byte ≡ AskRefused PastWindow
-  pub byteTaken : (asked : ℕ) (given : List Record) (byte : ℕ) (x : Refusal) → byte < windowBytes (windowOf asked) →
-      askOf (runFrom asked given) byte ≢ AskRefused x
-  -- 13: the run is closed with a transaction open
+      askedReply (askOf (runFrom asked given) byte) ≡ Reply.refused 9 0
+  pub byteTaken : (asked : ℕ) (given : List Record) (byte number at : ℕ) → byte < windowBytes (windowOf asked) →
+      askedReply (askOf (runFrom asked given) byte) ≢ Reply.refused number at
+  -- a closing. 13: a transaction is open
   pub closingRefused : (asked : ℕ) (given : List Record) → depth (takenFrom asked given) ≢ 0 →
-      closeOf (runFrom asked given) ≡ CloseRefused TransactionOpen
-  pub closingTaken : (asked : ℕ) (given : List Record) (x : Refusal) → depth (takenFrom asked given) ≡ 0 →
-      closeOf (runFrom asked given) ≢ CloseRefused x
+      closingReply (closeOf (runFrom asked given)) ≡ Reply.refused 13 0
+  pub closingTaken : (asked : ℕ) (given : List Record) (number at : ℕ) → depth (takenFrom asked given) ≡ 0 →
+      closingReply (closeOf (runFrom asked given)) ≢ Reply.refused number at
+  -- a record read by itself: the first of 6 and 7 that applies, or its fields
+  pub readRefused : (s : List ℕ) {x : Refusal} → First (readLimits s) x → readReply (parsed s) ≡ Reply.refused (numberOf x) 0
+  pub readTaken : (s : List ℕ) → NoneBroken (readLimits s) → readReply (parsed s) ≡ Reply.values (recordValues (recordOf s))
+  -- a trailer read: the first of 1, 2, 3, 4, 5 that applies, or its fields
+  pub trailerRefused : (s : List ℕ) {x : Refusal} → First (fileLimits s) x → openedReply (openedOf s) ≡ Reply.refused (numberOf x) 0
+  pub trailerTaken : (s : List ℕ) → NoneBroken (fileLimits s) →
+      openedReply (openedOf s) ≡ Reply.values (trailerOf s .offset ∷ trailerOf s .count ∷ trailerOf s .lines ∷ [])
   -- a trace: the first of 1, 2, 3, 4, 5, 14 that applies, at 0
-  pub traceNumbers : (trace area : List ℕ) →
-      map (λ (l : Limit). numberOf (l .number)) (traceLimits trace area) ≡ 1 ∷ 2 ∷ 3 ∷ 4 ∷ 5 ∷ 14 ∷ []
-  pub traceRefused : (trace area : List ℕ) {x : Refusal} → First (traceLimits trace area) x → Rejected trace area x 0
+  pub traceNumbers : (trace area : List ℕ) → numbersOf (traceLimits trace area) ≡ 1 ∷ 2 ∷ 3 ∷ 4 ∷ 5 ∷ 14 ∷ []
+  pub traceRefused : (trace area : List ℕ) {x : Refusal} → First (traceLimits trace area) x → Rejected trace area (numberOf x) 0
   pub traceLimited : (trace area : List ℕ) → ((x : Refusal) × First (traceLimits trace area) x) ⊎ NoneBroken (traceLimits trace area)
-  -- else the first record that 6 to 12 refuse, at its number from 1
-  pub recordRefused : (trace area : List ℕ) {x : Refusal} {n : ℕ} → NoneBroken (traceLimits trace area) →
-      Stops (linesIn trace) 1 [] (recordsIn trace) x n → Rejected trace area x n
-  pub recordsDecided : (trace : List ℕ) →
-      ((x : Refusal) × (n : ℕ) × Stops (linesIn trace) 1 [] (recordsIn trace) x n) ⊎
-      ((h : History) × Takes (linesIn trace) [] (recordsIn trace) h)
+  -- else the first record to which one of 6, 7, 8, 9, 10, 11, 12 applies, by the first that does, at the record's number from 1
+  pub recordNumbers : (lines : ℕ) (h : History) (s : List ℕ) → numbersOf (recordLimits lines h s) ≡ 6 ∷ 7 ∷ 8 ∷ 9 ∷ 10 ∷ 11 ∷ 12 ∷ []
+  pub recordRefused : (trace area : List ℕ) {x : Refusal} {n : ℕ} → NoneBroken (traceLimits trace area) → StopsAt trace x n →
+      Rejected trace area (numberOf x) n
+  pub recordsDecided : (trace : List ℕ) → ((x : Refusal) × (n : ℕ) × StopsAt trace x n) ⊎ ((h : History) × TakesAll trace h)
   -- else 13, at 0
-  pub traceOpen : (trace area : List ℕ) {h : History} → NoneBroken (traceLimits trace area) →
-      Takes (linesIn trace) [] (recordsIn trace) h → depth h ≢ 0 → Rejected trace area TransactionOpen 0
+  pub traceOpen : (trace area : List ℕ) {h : History} → NoneBroken (traceLimits trace area) → TakesAll trace h → depth h ≢ 0 →
+      Rejected trace area 13 0
   -- else by no number
-  pub traceTaken : (trace area : List ℕ) {h : History} (x : Refusal) (n : ℕ) → NoneBroken (traceLimits trace area) →
-      Takes (linesIn trace) [] (recordsIn trace) h → depth h ≡ 0 → verdictOf trace area ≢ RefusedAt x n
+  pub traceTaken : (trace area : List ℕ) {h : History} (number at : ℕ) → NoneBroken (traceLimits trace area) → TakesAll trace h → depth h ≡ 0 →
+      verdictReply (verdictOf trace area) ≢ Reply.refused number at

@@ -3,55 +3,59 @@
 use mathlib.Core.Path.{_≡_}
 use mathlib.Core.Bool.{true}
 use mathlib.Core.Logic.{_↔_}
-use mathlib.Core.List.{List, [], _∷_}
+use mathlib.Core.List.{List, [], _∷_, map}
 use Prim.Native.Nat.{ℕ, suc}
 use lib.ListN.{length}
 use Rattle.event.specs.declared.Range.{Range}
 use Rattle.event.specs.declared.Event.the-variants.{End, Persisted, Ordered}
 use Rattle.event.specs.declared.Record.{Record}
-use Rattle.event.specs.declared.Finding.the-variants.{Holds}
-use Rattle.event.specs.declared.Answer.{Answer}
-use Rattle.event.specs.declared.Answer.the-variants.{Found}
+use Rattle.event.specs.Reply.{Reply, answerReply}
 use Rattle.window.specs.Window.{covers}
 use Rattle.history.specs.History.{stores, storesByte}
 use Rattle.history.specs.Interval.{epochAt}
 use Rattle.history.specs.Assertion.{BrokenByte, BrokenPair}
 use Rattle.history.specs.Transaction.{depth, Since}
 use Rattle.history.specs.Given.{windowOf, Accepted, ClaimRun, reported}
+use Rattle.history.specs.Small.{SmallRun, smallRuns, recorded, foundAll}
 use Rattle.events.specs.Give.{giveOf}
-use Rattle.engine.specs.declared.Closing.the-variants.{Totals}
 use Rattle.engine.specs.Call.{closeOf}
-use Rattle.verdict.specs.declared.Verdict.the-variants.{Accepted as Totalled}
-use Rattle.verdict.specs.Verdict.{verdictOf}
-use Rattle.claims.specs.After.{runFrom, takenFrom, answersFrom}
+use Rattle.engine.specs.Reply.{givenReply, closingReply}
+use Rattle.verdict.specs.Verdict.{verdictOf, verdictReply}
+use Rattle.claims.specs.After.{runFrom, takenFrom, answersFrom, repliesFrom}
 use Rattle.claims.specs.Traces.{GivenSingly}
+
+-- the finding "holds": kind 1, and no field
+abbrev pub holds : Reply
+holds = Reply.values (1 ∷ 0 ∷ 0 ∷ 0 ∷ 0 ∷ [])
 
 pub record Demand3 : Type 0 where
   -- the answers meet the claim: each event is refused by the first number that applies, or no number applies and its finding's
   -- claim is true
-  pub claim : (asked : ℕ) (given : List Record) → ClaimRun (windowOf asked) [] given (answersFrom asked given)
+  pub claim : (asked : ℕ) (given : List Record) → ClaimRun (windowOf asked) [] given (repliesFrom asked given)
   -- and no other answers do
-  pub only : (asked : ℕ) (given : List Record) (others : List Answer) → ClaimRun (windowOf asked) [] given others →
-      others ≡ answersFrom asked given
+  pub only : (asked : ℕ) (given : List Record) (others : List Reply) → ClaimRun (windowOf asked) [] given others →
+      others ≡ repliesFrom asked given
   -- so an accepted persisted over A holds exactly when no byte of A is broken
   pub persisted : (asked : ℕ) (given : List Record) (r : Record) {a : Range} → let h = takenFrom asked given in
       Accepted (windowOf asked) h r → r .event ≡ Persisted a →
-      (giveOf (runFrom asked given) r .answer ≡ Found Holds) ↔
+      (givenReply (giveOf (runFrom asked given) r) ≡ holds) ↔
       ((b : ℕ) → BrokenByte (r ∷ h) (suc (length h)) (λ b. covers a b ≡ true) b → ⊥)
   -- an accepted ordered, exactly when no pair of a kept byte of B and a lost byte of A is broken
   pub ordered : (asked : ℕ) (given : List Record) (r : Record) {a b : Range} → let h = takenFrom asked given in
       Accepted (windowOf asked) h r → r .event ≡ Ordered a b →
-      (giveOf (runFrom asked given) r .answer ≡ Found Holds) ↔
+      (givenReply (giveOf (runFrom asked given) r) ≡ holds) ↔
       ((kept lost : ℕ) → BrokenPair (r ∷ h) (suc (length h)) a b kept lost → ⊥)
   -- an accepted outermost end with a store since its begin, exactly when no byte stored since its begin is broken
   pub ends : (asked : ℕ) (given : List Record) (r : Record) → let h = takenFrom asked given in
       Accepted (windowOf asked) h r → r .event ≡ End → depth h ≡ 1 → Since h stores →
-      (giveOf (runFrom asked given) r .answer ≡ Found Holds) ↔
+      (givenReply (giveOf (runFrom asked given) r) ≡ holds) ↔
       ((b : ℕ) → BrokenByte (r ∷ h) (suc (length h)) (λ b. Since h (storesByte b)) b → ⊥)
   -- the totals at closing: the accepted events, the fences among them, and the findings other than none
   pub totals : (asked : ℕ) (given : List Record) → let h = takenFrom asked given in depth h ≡ 0 →
-      closeOf (runFrom asked given) ≡ Totals (length h) (epochAt h (length h)) (reported (answersFrom asked given))
+      closingReply (closeOf (runFrom asked given)) ≡ Reply.values (length h ∷ epochAt h (length h) ∷ reported (answersFrom asked given) ∷ [])
   -- the findings area of an accepted trace holds, for each record in order, the finding that its event gets when the trace's events
   -- are given singly from the fresh window that the trace is judged from
-  pub traces : (trace area : List ℕ) {events fences findings : ℕ} → verdictOf trace area ≡ Totalled events fences findings →
-      GivenSingly trace area events fences findings
+  pub traces : (trace area totals : List ℕ) → verdictReply (verdictOf trace area) ≡ Reply.values totals → GivenSingly trace area totals
+  -- the starred small runs, given in a fresh window of two lines, get the findings of document 01's table
+  pub starred : map (λ (run : SmallRun). repliesFrom 2 (recorded (run .given))) smallRuns ≡
+      map (λ (run : SmallRun). map answerReply (foundAll (run .findings))) smallRuns

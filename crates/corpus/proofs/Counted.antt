@@ -8,7 +8,7 @@ use Rattle.event.specs.declared.Refusal.{Refusal}
 use Rattle.event.specs.Numbers.{numberOf}
 use Rattle.verdict.specs.declared.Verdict.{Verdict}
 use Rattle.verdict.specs.declared.Verdict.the-variants.{Refused, Accepted}
-use Rattle.verdict.specs.Verdict.{verdictOf, areaAfter}
+use Rattle.verdict.specs.Verdict.{verdictOf, verdictReply, areaAfter}
 use Rattle.codec.specs.Codec.{findingSize}
 use Rattle.corpus.specs.Tally.{counted, placeOf, kindsFrom, kindsIn}
 
@@ -30,18 +30,18 @@ module _ (area : List ℕ) (i events : ℕ) (counts : List ℕ) where
 module _ (answer : Verdict) (area answers kinds : List ℕ) where
   pub refused-counted : {x : Refusal} {n place : ℕ} {later : List ℕ} → answer ≡ Refused x n → place ≡ numberOf x →
       later ≡ counted place answers →
-      (later ≡ counted (placeOf answer) answers) × (kinds ≡ kindsIn answer area kinds)
+      (later ≡ counted (placeOf (verdictReply answer)) answers) × (kinds ≡ kindsIn answer area kinds)
   refused-counted e p k = rw (e, ← p) (k, refl)
 
   pub accepted-counted : {events fences findings : ℕ} {later more : List ℕ} → answer ≡ Accepted events fences findings →
       later ≡ counted 0 answers → more ≡ kindsFrom 0 events area kinds →
-      (later ≡ counted (placeOf answer) answers) × (more ≡ kindsIn answer area kinds)
+      (later ≡ counted (placeOf (verdictReply answer)) answers) × (more ≡ kindsIn answer area kinds)
   accepted-counted e k m = rw e (k, m)
 
 -- a trace that is judged into an area as it was before, and counted
 pub run-counted : (trace before answers kinds : List ℕ) {answer : Verdict} {area left later more : List ℕ} → area ≡ before →
     answer ≡ verdictOf trace area → left ≡ areaAfter trace area →
-    later ≡ counted (placeOf answer) answers → more ≡ kindsIn answer left kinds →
-    (left ≡ areaAfter trace before) × ((later ≡ counted (placeOf (verdictOf trace before)) answers) ×
+    later ≡ counted (placeOf (verdictReply answer)) answers → more ≡ kindsIn answer left kinds →
+    (left ≡ areaAfter trace before) × ((later ≡ counted (placeOf (verdictReply (verdictOf trace before))) answers) ×
     (more ≡ kindsIn (verdictOf trace before) (areaAfter trace before) kinds))
 run-counted trace before answers kinds b v l a k = rw (← b, ← v, ← l) (refl, (a, k))

@@ -2,7 +2,7 @@
 use mathlib.Core.List.{List}
 use Prim.Native.Nat.{ℕ, zero, suc, _+_, _*_, _%_}
 use lib.ListN.{getD, set}
-use Rattle.event.specs.Numbers.{numberOf}
+use Rattle.event.specs.Reply.{Reply}
 use Rattle.verdict.specs.declared.Verdict.{Verdict}
 use Rattle.verdict.specs.declared.Verdict.the-variants.{Refused, Accepted}
 use Rattle.codec.specs.Codec.{findingSize}
@@ -12,9 +12,9 @@ abbrev pub counted : ℕ → List ℕ → List ℕ
 counted i counts = set counts i ((getD counts i 0 + 1) % 4294967296)
 
 -- an answer counts at the refusal's number, or at 0 where the trace is accepted
-abbrev pub placeOf : Verdict → ℕ
-placeOf (Refused x n) = numberOf x
-placeOf (Accepted events fences findings) = 0
+abbrev pub placeOf : Reply → ℕ
+placeOf (Reply.refused number at) = number
+placeOf (Reply.values totals) = 0
 
 -- so many findings of an area after the first ones, each at its kind
 unfoldable pub kindsFrom : (before count : ℕ) → (area counts : List ℕ) → List ℕ

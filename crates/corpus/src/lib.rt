@@ -4,7 +4,7 @@ use event::numbers;
 use verdict::Verdict;
 ghost use mathlib.Core.Path.{_≡_};
 ghost use lib.ListN.{length};
-ghost use Rattle.verdict.specs.Verdict.{verdictOf, areaAfter};
+ghost use Rattle.verdict.specs.Verdict.{verdictOf, verdictReply, areaAfter};
 ghost use Rattle.corpus.specs.Agrees.{areaBefore, Agrees, Tests};
 ghost use Rattle.corpus.specs.Tally.{counted, placeOf, kindsFrom, kindsIn};
 
@@ -55,7 +55,7 @@ fn count_kinds(kinds: &mut [u32], area: &[u8], events: u16)
 
 // Counts an answer at its number, 0 where the trace is accepted, and then the findings in the area at their kinds.
 fn tally(answer: Verdict, area: &[u8], answers: &mut [u32], kinds: &mut [u32])
-    ensures { λ _. ⌜ now (answers .exit) ≡ counted (placeOf answer) (now (answers .entry)) ⌝ }
+    ensures { λ _. ⌜ now (answers .exit) ≡ counted (placeOf (verdictReply answer)) (now (answers .entry)) ⌝ }
     ensures { λ _. ⌜ now (kinds .exit) ≡ kindsIn answer (now (area .entry)) (now (kinds .entry)) ⌝ }
 {
     match answer {
@@ -87,7 +87,7 @@ pub fn run(
     ensures { λ _. ⌜ now (area .exit) ≡ areaAfter (now (trace .entry)) (areaBefore (length (now (area .entry)))) ⌝ }
     ensures { λ _. ⌜
         now (answers .exit) ≡
-        counted (placeOf (verdictOf (now (trace .entry)) (areaBefore (length (now (area .entry)))))) (now (answers .entry))
+        counted (placeOf (verdictReply (verdictOf (now (trace .entry)) (areaBefore (length (now (area .entry))))))) (now (answers .entry))
         ⌝ }
     ensures { λ _. ⌜
         now (kinds .exit) ≡

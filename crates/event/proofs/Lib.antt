@@ -2,3 +2,4 @@
 pub mod Bools
 pub mod Laws
 pub mod Table
+pub mod Meaning  -- the refusals bear the paper's numbers

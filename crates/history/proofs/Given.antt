@@ -1,7 +1,7 @@
 -- The answers to a whole list of given events meet the one claim over it, and no other answers do.
 use mathlib.Core.Path.{_≡_, refl, sym, ap, ap₂, _∙_}
 use mathlib.Core.Bool.{Bool, true, false, cond}
-use mathlib.Core.List.{List, [], _∷_}
+use mathlib.Core.List.{List, [], _∷_, map}
 use Prim.Native.Nat.{ℕ, suc, _<_}
 use native.Mathlib.Decide.{ℕ-discrete as decEq}
 use lib.ListN.{length}
@@ -11,8 +11,9 @@ use Rattle.event.specs.declared.Finding.{Finding}
 use Rattle.event.specs.declared.Refusal.{Refusal}
 use Rattle.event.specs.declared.Check.{Check}
 use Rattle.event.specs.declared.Check.the-variants.{Passed, Refused as Breaks}
-use Rattle.event.specs.declared.Answer.{Answer}
 use Rattle.event.specs.declared.Answer.the-variants.{Refused, Found}
+use Rattle.event.specs.Numbers.{numberOf}
+use Rattle.event.specs.Reply.{Reply, findingValues, answerReply}
 use Rattle.window.specs.Window.{windowBytes, isPast, rangesOf, anyRange}
 use Rattle.event.proofs.Bools.{contradiction, and-right}
 use Rattle.history.specs.History.{History, is, stores, coversByte, storesByte}
@@ -83,7 +84,7 @@ inside-taken lines h r inside k s b t = go (decEq s (suc (length h)))
     go (no e) = inside s b (sym (is-older (storesByte b) r h s e) ∙ t)
 
 -- the claim over the whole list, from any history whose stores lie in the window
-claim-from : (lines : ℕ) (h : History) (given : List Record) → Inside lines h → ClaimRun lines h given (answers lines h given)
+claim-from : (lines : ℕ) (h : History) (given : List Record) → Inside lines h → ClaimRun lines h given (map answerReply (answers lines h given))
 unfolding answers answerOf refusalBy
 claim-from lines h [] inside = ClaimRun.done
 claim-from lines h (r ∷ given) inside =
@@ -94,19 +95,20 @@ claim-from lines h (r ∷ given) inside =
     f = findingBy (ofHistory lines h) (r .event)
 
     go : (c : Check) → Checked (limitsBy (ofHistory lines h) (r .event)) c →
-        (Inside lines h → ClaimRun lines h given (answers lines h given)) → (Inside lines (r ∷ h) → ClaimRun lines (r ∷ h) given (answers lines (r ∷ h) given)) →
-        ClaimRun lines h (r ∷ given) (answerFor c f ∷ answers lines (after (answerFor c f) r h) given)
-    go Passed (Checked.none k) refused taken = ClaimRun.takes k (finding-claim lines h inside r) (taken (inside-taken lines h r inside k))
+        (Inside lines h → ClaimRun lines h given (map answerReply (answers lines h given))) →
+        (Inside lines (r ∷ h) → ClaimRun lines (r ∷ h) given (map answerReply (answers lines (r ∷ h) given))) →
+        ClaimRun lines h (r ∷ given) (map answerReply (answerFor c f ∷ answers lines (after (answerFor c f) r h) given))
+    go Passed (Checked.none k) refused taken = ClaimRun.takes f k (finding-claim lines h inside r) (taken (inside-taken lines h r inside k))
     go (Breaks x) (Checked.first k) refused taken = ClaimRun.refuses k (refused inside)
 
 -- the answers to every list of given events, from the run of every asked line count, meet the claim
-pub whole-claim : (asked : ℕ) (given : List Record) → ClaimRun (windowOf asked) [] given (answers (windowOf asked) [] given)
+pub whole-claim : (asked : ℕ) (given : List Record) → ClaimRun (windowOf asked) [] given (map answerReply (answers (windowOf asked) [] given))
 whole-claim asked given = claim-from (windowOf asked) [] given (inside-empty (windowOf asked))
 
 -- and no other answers do
-pub one-run : {lines : ℕ} {h : History} {given : List Record} {xs ys : List Answer} → ClaimRun lines h given xs → ClaimRun lines h given ys → xs ≡ ys
+pub one-run : {lines : ℕ} {h : History} {given : List Record} {xs ys : List Reply} → ClaimRun lines h given xs → ClaimRun lines h given ys → xs ≡ ys
 one-run ClaimRun.done ClaimRun.done = refl
-one-run (ClaimRun.refuses a b) (ClaimRun.refuses c d) = ap₂ (λ x xs. Refused x ∷ xs) (one-number a c) (one-run b d)
-one-run (ClaimRun.refuses a b) (ClaimRun.takes c d e) = absurd (not-both a c)
-one-run (ClaimRun.takes c d e) (ClaimRun.refuses a b) = absurd (not-both a c)
-one-run (ClaimRun.takes {h = h} {r = r} a b c) (ClaimRun.takes d e f) = ap₂ (λ x xs. Found x ∷ xs) (one-finding h r b e) (one-run c f)
+one-run (ClaimRun.refuses a b) (ClaimRun.refuses c d) = ap₂ (λ (x : Refusal) (xs : List Reply). Reply.refused (numberOf x) 0 ∷ xs) (one-number a c) (one-run b d)
+one-run (ClaimRun.refuses a b) (ClaimRun.takes f c d e) = absurd (not-both a c)
+one-run (ClaimRun.takes f c d e) (ClaimRun.refuses a b) = absurd (not-both a c)
+one-run (ClaimRun.takes {h = h} {r = r} f a b c) (ClaimRun.takes g d e k) = ap₂ (λ (f : Finding) (xs : List Reply). Reply.values (findingValues f) ∷ xs) (one-finding h r b e) (one-run c k)

@@ -9,7 +9,8 @@ use Rattle.event.specs.declared.Check.{Check}
 use Rattle.event.specs.declared.Check.the-variants.{Passed, Refused as Breaks}
 use Rattle.event.specs.declared.Answer.{Answer}
 use Rattle.event.specs.declared.Answer.the-variants.{Refused, Found}
-use Rattle.event.specs.Numbers.{isNone}
+use Rattle.event.specs.Numbers.{isNone, numberOf}
+use Rattle.event.specs.Reply.{Reply, findingValues}
 use Rattle.window.specs.Window.{linesCheck}
 use Rattle.history.specs.History.{History}
 use Rattle.history.specs.View.{ofHistory}
@@ -67,13 +68,13 @@ unfoldable pub reported : List Answer → ℕ
 reported [] = 0
 reported (a ∷ rest) = counts a + reported rest
 
--- the single claim over the whole list: each event is refused by the first number that applies, and the history is then as it
--- was; or no number applies, and its finding's claim is true
-pub data ClaimRun (lines : ℕ) : History → List Record → List Answer → Type 0 where
+-- the single claim over the whole list of events and what each gets: it is refused by the first number that applies, and the history
+-- is then as it was; or no number applies, and the claim of the finding that it gets is true
+pub data ClaimRun (lines : ℕ) : History → List Record → List Reply → Type 0 where
   done : {h : History} → ClaimRun lines h [] []
-  refuses : {h : History} {r : Record} {given : List Record} {x : Refusal} {rest : List Answer} →
+  refuses : {h : History} {r : Record} {given : List Record} {x : Refusal} {rest : List Reply} →
       RefusedBy lines h r x →
-      ClaimRun lines h given rest → ClaimRun lines h (r ∷ given) (Refused x ∷ rest)
-  takes : {h : History} {r : Record} {given : List Record} {f : Finding} {rest : List Answer} →
+      ClaimRun lines h given rest → ClaimRun lines h (r ∷ given) (Reply.refused (numberOf x) 0 ∷ rest)
+  takes : {h : History} {r : Record} {given : List Record} {rest : List Reply} (f : Finding) →
       Accepted lines h r → Claim h r f →
-      ClaimRun lines (r ∷ h) given rest → ClaimRun lines h (r ∷ given) (Found f ∷ rest)
+      ClaimRun lines (r ∷ h) given rest → ClaimRun lines h (r ∷ given) (Reply.values (findingValues f) ∷ rest)

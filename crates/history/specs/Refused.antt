@@ -1,7 +1,7 @@
 -- What refuses an event, read off the window's lines, the events taken and the transactions open: the first number that applies.
 use mathlib.Core.Path.{_≡_}
 use mathlib.Core.Bool.{Bool, true, false, cond, _&&_, _||_}
-use mathlib.Core.List.{List, [], _∷_}
+use mathlib.Core.List.{List, [], _∷_, map}
 use Prim.Native.Nat.{ℕ}
 use lib.Dec.{leb, eqb}
 use Rattle.event.specs.declared.Event.{Event}
@@ -9,6 +9,7 @@ use Rattle.event.specs.declared.Refusal.{Refusal}
 use Rattle.event.specs.declared.Refusal.the-variants.{EmptyRange, PastWindow, EventsExhausted, NoTransaction, TooDeep}
 use Rattle.event.specs.declared.Check.{Check}
 use Rattle.event.specs.declared.Check.the-variants.{Passed, Refused}
+use Rattle.event.specs.Numbers.{numberOf}
 use Rattle.window.specs.Window.{isEmpty, isPast, rangesOf, anyRange}
 use Rattle.history.specs.History.{begins, logs, ends}
 use Rattle.history.specs.View.{View}
@@ -42,6 +43,10 @@ limitsBy v e =
     limit (asksOpen e && eqb (v .depth) 0) NoTransaction ∷  -- 11 log or end with no transaction open
     limit (begins e && leb mostDepth (v .depth)) TooDeep ∷  -- 12 begin at depth 8
     []
+
+-- the paper's numbers of limits, in their order
+abbrev pub numbersOf : List Limit → List ℕ
+numbersOf limits = map (λ (x : Limit). numberOf (x .number)) limits
 
 -- a number applies first: its limit is broken, and none before it is
 pub data First : List Limit → Refusal → Type 0 where

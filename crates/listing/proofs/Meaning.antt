@@ -27,6 +27,7 @@ use Rattle.trailer.specs.Trailer.{sameBytes, trailerOf}
 use Rattle.trace.specs.Records.{recordsOf, eventsOf}
 use Rattle.trace.specs.Checked.{checkFrom}
 use Rattle.trace.specs.Layout.{recordsBytes, traceBytes}
+use Rattle.verdict.specs.Verdict.{verdictOf}
 use Rattle.text.specs.Text.{ascii, digit, decimalIn}
 use Rattle.lines.specs.Lines.{headLine, footLine, refusalLine}
 use Rattle.finding_lines.specs.Lines.{nameOf, field, values, columns, findingLine}
@@ -58,13 +59,13 @@ pub whole-run : (area : List ℕ) → 108 ≤ length area → reportOf (traceByt
     ascii "end 4\n"
 unfolding count last first is epochAt lastStore backAfter fenceAfter intervalOf depth lowest lowestPair findingBy refusalBy
     answerOf accepted answers reported sameBytes trailerOf recordsOf eventsOf checkFrom recordsBytes decimalIn
-    headLine field values columns findingLine footLine findingLines reportOf
+    headLine field values columns findingLine footLine findingLines verdictOf reportOf
 whole-run area k = rw (le-ltb (length area) 108 k)
 
 -- range 121/8 runs past two lines
 pub refused-run : (area : List ℕ) → 36 ≤ length area →
     reportOf (traceBytes [] (Store (0 /· 8) at 10 ∷ Store (120 /· 8) at 11 ∷ Store (121 /· 8) at 12 ∷ []) 2) area ≡ ascii "refused 9 at 3\n"
-unfolding refusalBy sameBytes trailerOf recordsOf checkFrom recordsBytes decimalIn refusalLine reportOf
+unfolding refusalBy sameBytes trailerOf recordsOf checkFrom recordsBytes decimalIn refusalLine verdictOf reportOf
 refused-run area k = rw (le-ltb (length area) 36 k)
 
 -- the line feeds of a text

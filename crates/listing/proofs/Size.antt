@@ -14,7 +14,7 @@ use Rattle.history.specs.Given.{reported}
 use Rattle.trace.specs.declared.TraceCheck.{TraceCheck}
 use Rattle.trace.specs.declared.TraceCheck.the-variants.{Passed, Refused}
 use Rattle.trace.specs.Records.{linesIn, eventsIn}
-use Rattle.verdict.specs.Verdict.{traceCheck, historyOf, answersOf}
+use Rattle.verdict.specs.Verdict.{traceCheck, historyOf, answersOf, verdictFor, verdictOf, verdictReply}
 use Rattle.text.specs.Text.{Out, out, put}
 use Rattle.lines.specs.Lines.{headLine, footLine, refusalLine}
 use Rattle.finding_lines.specs.Lines.{names, nameOf, isPrinted, field, values, columns, findingLine}
@@ -91,10 +91,10 @@ parts-size : (head lines foot : List ℕ) → length head ≤ 41 → length line
 parts-size head lines foot h k l = simp length-append (omega arith)
 
 pub report-size : (trace area : List ℕ) → length (reportOf trace area) ≤ longest-report
-unfolding reportOf
+unfolding reportOf verdictOf
 report-size trace area = go (traceCheck trace area) refl
   where
-    go : (c : TraceCheck) → traceCheck trace area ≡ c → length (reportFor c trace) ≤ longest-report
+    go : (c : TraceCheck) → traceCheck trace area ≡ c → length (reportFor (verdictReply (verdictFor c (historyOf trace) (answersOf trace))) trace) ≤ longest-report
     go Passed e =
         let given = eventsIn trace in
         let found = answersOf trace in

@@ -15,7 +15,7 @@ use Rattle.verdict.specs.Verdict.{traceCheck, historyOf, answersOf, verdictFor,
 use Rattle.text.specs.Text.{Out, put}
 use Rattle.lines.specs.Lines.{headLine, footLine, refusalLine}
 use Rattle.finding_lines.specs.Area.{linesFrom}
-use Rattle.listing.specs.Report.{findingLines, reportFor, reportOf}
+use Rattle.listing.specs.Report.{findingLines, reportOf}
 use Rattle.listing.proofs.Area.{area-lines}
 
 -- what the judge's totals are
@@ -27,12 +27,8 @@ record Totals (trace area : List ℕ) (events findings : ℕ) : Type 0 where
 module _ (trace area : List ℕ) where
   -- of a refused trace only the refusal
   refused-report : {x : Refusal} {n : ℕ} → verdictOf trace area ≡ Refused x n → reportOf trace area ≡ refusalLine (numberOf x) n
-  unfolding verdictOf reportOf
-  refused-report {x} {n} e = go (traceCheck trace area) e
-    where
-      go : (c : TraceCheck) → verdictFor c (historyOf trace) (answersOf trace) ≡ Refused x n → reportFor c trace ≡ refusalLine (numberOf x) n
-      go (RefusedAt y m) k = cc
-      go Passed k = let z : _≡_ {A = ℕ} 0 1 = cc in absurd (omega arith)
+  unfolding reportOf
+  refused-report e = rw e
 
   totals : {events fences findings : ℕ} → verdictOf trace area ≡ Accepted events fences findings → Totals trace area events findings
   unfolding verdictOf
@@ -57,4 +53,4 @@ module _ (trace area : List ℕ) where
       let t = totals e in
       let same : linesFrom 0 events next ≡ findingLines 1 (eventsIn trace) (answersOf trace) =
       rw (t .counted, a) (area-lines trace area (t .passes)) in
-      q ∙ (rw (t .passes, same, t .counted, t .found))
+      q ∙ (rw (e, same, t .counted, t .found))

@@ -5,12 +5,11 @@ use lib.ListN.{length}
 use Rattle.event.specs.declared.Record.{Record}
 use Rattle.event.specs.declared.Answer.{Answer}
 use Rattle.event.specs.declared.Answer.the-variants.{Refused as NoFinding, Found}
-use Rattle.event.specs.Numbers.{fieldsOf, numberOf}
+use Rattle.event.specs.Numbers.{fieldsOf}
+use Rattle.event.specs.Reply.{Reply}
 use Rattle.history.specs.Given.{reported}
-use Rattle.trace.specs.declared.TraceCheck.{TraceCheck}
-use Rattle.trace.specs.declared.TraceCheck.the-variants.{Passed, Refused}
 use Rattle.trace.specs.Records.{linesIn, eventsIn}
-use Rattle.verdict.specs.Verdict.{traceCheck, historyOf, answersOf}
+use Rattle.verdict.specs.Verdict.{historyOf, answersOf, verdictOf, verdictReply}
 use Rattle.lines.specs.Lines.{headLine, footLine, refusalLine}
 use Rattle.finding_lines.specs.Lines.{findingLine}
 
@@ -30,10 +29,10 @@ abbrev pub listingOf : List ℕ → List ℕ
 listingOf trace =
     headLine (length (historyOf trace)) (linesIn trace) ++ findingLines 1 (eventsIn trace) (answersOf trace) ++ footLine (reported (answersOf trace))
 
-abbrev pub reportFor : TraceCheck → List ℕ → List ℕ
-reportFor Passed trace = listingOf trace
-reportFor (Refused x n) trace = refusalLine (numberOf x) n
+abbrev pub reportFor : Reply → List ℕ → List ℕ
+reportFor (Reply.values totals) trace = listingOf trace
+reportFor (Reply.refused number at) trace = refusalLine number at
 
 -- what is printed for a trace that is judged into an area
 unfoldable pub reportOf : (trace area : List ℕ) → List ℕ
-reportOf trace area = reportFor (traceCheck trace area) trace
+reportOf trace area = reportFor (verdictReply (verdictOf trace area)) trace

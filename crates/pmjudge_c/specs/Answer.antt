@@ -2,10 +2,8 @@
 -- fences, and findings other than none. What an answer lacks is 0.
 use mathlib.Core.List.{List, [], _∷_}
 use Prim.Native.Nat.{ℕ}
-use Rattle.event.specs.Numbers.{numberOf}
-use Rattle.verdict.specs.declared.Verdict.{Verdict}
-use Rattle.verdict.specs.declared.Verdict.the-variants.{Refused, Accepted}
+use Rattle.event.specs.Reply.{Reply}
 
-abbrev pub fiveNumbers : Verdict → List ℕ
-fiveNumbers (Refused refusal at) = numberOf refusal ∷ at ∷ 0 ∷ 0 ∷ 0 ∷ []
-fiveNumbers (Accepted events fences findings) = 0 ∷ 0 ∷ events ∷ fences ∷ findings ∷ []
+abbrev pub fiveNumbers : Reply → List ℕ
+fiveNumbers (Reply.refused number at) = number ∷ at ∷ 0 ∷ 0 ∷ 0 ∷ []
+fiveNumbers (Reply.values totals) = 0 ∷ 0 ∷ totals

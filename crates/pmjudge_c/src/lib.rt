@@ -2,12 +2,12 @@
 use event::numbers;
 use verdict::Verdict;
 ghost use mathlib.Core.Path.{_≡_};
-ghost use Rattle.verdict.specs.Verdict.{verdictOf, areaAfter};
+ghost use Rattle.verdict.specs.Verdict.{verdictOf, verdictReply, areaAfter};
 ghost use Rattle.pmjudge_c.specs.Answer.{fiveNumbers};
 
 // The answer as numbers.
 fn answer_of(v: Verdict) -> [u32; 5]
-    ensures { λ r. ⌜ r ≡ fiveNumbers v ⌝ }
+    ensures { λ r. ⌜ r ≡ fiveNumbers (verdictReply v) ⌝ }
 {
     match v {
         Verdict::Refused { refusal, record } => [numbers::number(refusal) as u32, record, 0, 0, 0],
@@ -28,7 +28,7 @@ fn answer_of(v: Verdict) -> [u32; 5]
 // other than none. No pointer is null, and neither area nor answer shares a byte with another of the three.
 #[no_mangle]
 pub extern "C" fn pmjudge_judge(trace: &[u8], area: &mut [u8], answer: &mut [u32; 5])
-    ensures { λ _. ⌜ now (answer .exit) ≡ fiveNumbers (verdictOf (now (trace .entry)) (now (area .entry))) ⌝ }
+    ensures { λ _. ⌜ now (answer .exit) ≡ fiveNumbers (verdictReply (verdictOf (now (trace .entry)) (now (area .entry)))) ⌝ }
     ensures { λ _. ⌜ now (area .exit) ≡ areaAfter (now (trace .entry)) (now (area .entry)) ⌝ }
 {
     let v = judge::judge(trace, area);

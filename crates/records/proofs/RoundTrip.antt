@@ -1,7 +1,7 @@
 -- Reading a record accepts exactly the bytes of records: those of each record, which it gives back, and no others.
 -- Assumes nothing.
 use mathlib.Core.Path.{_≡_, refl, sym, ap, _∙_}
-use mathlib.Core.Bool.{Bool, true, false, cond, _&&_, _||_}
+use mathlib.Core.Bool.{Bool, true, false, cond, not, _&&_, _||_}
 use mathlib.Core.List.{List, [], _∷_, _++_}
 use Prim.Native.Nat.{ℕ, zero, suc, _+_, _≤_, _<_}
 use native.Mathlib.Omega.{arith}
@@ -12,13 +12,12 @@ use Rattle.event.specs.declared.Range.{Range}
 use Rattle.event.specs.declared.Event.{Event}
 use Rattle.event.specs.declared.Event.the-variants.{Store, WriteBack, Fence, Begin, Log, End, Persisted, Ordered}
 use Rattle.event.specs.declared.Record.{Record}
-use Rattle.event.specs.declared.Parsed.{Parsed}
 use Rattle.event.specs.declared.Parsed.the-variants.{Read, Refused}
 use Rattle.event.specs.declared.Refusal.the-variants.{UnknownKind, FieldSet}
 use Rattle.event.specs.Numbers.{kindOf}
 use Rattle.window.specs.Window.{rangesOf}
 use Rattle.codec.specs.Codec.{u16At, u16Bytes}
-use Rattle.records.specs.Record.{rangeAt, isKind, usesA, usesB, isZero, isClear, eventOf, parsed, padded, zeroRange, rangeBytes, recordBytes}
+use Rattle.records.specs.Record.{rangeAt, isKind, usesA, usesB, isZero, isClear, eventOf, recordOf, parsed, padded, zeroRange, rangeBytes, recordBytes}
 use Rattle.event.proofs.Bools.{contradiction, and-left, and-right}
 use Rattle.codec.proofs.Meaning.{u16-round-trip, u16-bytes}
 use Rattle.records.proofs.Meaning.{kind-of-event}
@@ -46,11 +45,8 @@ same-record x y k = cc
 read-from : (s : List ℕ) (e : Event) (site : ℕ) → parsed s ≡ Read (record { event = e; site = site }) → ReadFrom s e site
 read-from s e site k = go (isKind (getD s 0 0)) refl (isClear (getD s 0 0) (getD s 1 0) (rangeAt s 2) (rangeAt s 6)) refl k
   where
-    found : Parsed
-    found = Read (record { event = eventOf (getD s 0 0) (rangeAt s 2) (rangeAt s 6); site = u16At s 10 })
-
     go : (b : Bool) → isKind (getD s 0 0) ≡ b → (c : Bool) → isClear (getD s 0 0) (getD s 1 0) (rangeAt s 2) (rangeAt s 6) ≡ c →
-        cond b (cond c found (Refused FieldSet)) (Refused UnknownKind) ≡ Read (record { event = e; site = site }) → ReadFrom s e site
+        cond (not b) (Refused UnknownKind) (cond (not c) (Refused FieldSet) (Read (recordOf s))) ≡ Read (record { event = e; site = site }) → ReadFrom s e site
     go true p true q k = let same = same-record _ _ (sym k) in record { known = p; clear = q; event = ap (λ (r : Record). r .event) same; from = ap (λ (r : Record). r .site) same }
     go true p false q k = let z : _≡_ {A = ℕ} 0 1 = cc in absurd (omega arith)
     go false p c q k = let z : _≡_ {A = ℕ} 0 1 = cc in absurd (omega arith)

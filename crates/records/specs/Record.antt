@@ -7,10 +7,12 @@ use lib.ListN.{getD}
 use Rattle.event.specs.declared.Range.{Range}
 use Rattle.event.specs.declared.Event.{Event}
 use Rattle.event.specs.declared.Event.the-variants.{Store, WriteBack, Fence, Begin, Log, End, Persisted, Ordered}
+use Rattle.event.specs.declared.Record.{Record}
 use Rattle.event.specs.declared.Refusal.the-variants.{UnknownKind, FieldSet}
 use Rattle.event.specs.declared.Parsed.{Parsed}
 use Rattle.event.specs.declared.Parsed.the-variants.{Read, Refused}
-use Rattle.event.specs.Numbers.{kindOf}
+use Rattle.event.specs.Numbers.{kindOf, numberOf}
+use Rattle.event.specs.Reply.{Reply}
 use Rattle.window.specs.Window.{rangesOf}
 use Rattle.codec.specs.Codec.{u16At, u16Bytes}
 
@@ -54,16 +56,21 @@ eventOf kind a b =
     (cond (eqb kind 7) (Persisted a)
     (Ordered a b)))))))
 
--- a record: kind u8, zero u8, A address, A length, B address, B length, site, each u16;
--- 6: kind not 1 to 8; 7: a zero byte or lacking field set
+-- a record: kind u8, zero u8, A address, A length, B address, B length, site, each u16
+abbrev pub recordOf : List ℕ → Record
+recordOf s = record { event = eventOf (getD s 0 0) (rangeAt s 2) (rangeAt s 6); site = u16At s 10 }
+
+-- 6: kind not 1 to 8
+abbrev pub badKind : List ℕ → Bool
+badKind s = not (isKind (getD s 0 0))
+
+-- 7: a zero byte or lacking field set
+abbrev pub fieldSet : List ℕ → Bool
+fieldSet s = not (isClear (getD s 0 0) (getD s 1 0) (rangeAt s 2) (rangeAt s 6))
+
+-- the record, or the first of 6 and 7 that applies
 abbrev pub parsed : List ℕ → Parsed
-parsed s =
-    let kind = getD s 0 0 in
-    cond (isKind kind)
-    (cond (isClear kind (getD s 1 0) (rangeAt s 2) (rangeAt s 6))
-    (Read (record { event = eventOf kind (rangeAt s 2) (rangeAt s 6); site = u16At s 10 }))
-    (Refused FieldSet))
-    (Refused UnknownKind)
+parsed s = cond (badKind s) (Refused UnknownKind) (cond (fieldSet s) (Refused FieldSet) (Read (recordOf s)))
 
 -- the first n bytes; bytes past the end count as 0
 abbrev pub padded : ℕ → List ℕ → List ℕ
@@ -80,3 +87,16 @@ zeroRange = record { address = 0; length = 0 }
 abbrev pub recordBytes : Event → ℕ → List ℕ
 recordBytes e site =
     kindOf e ∷ 0 ∷ rangeBytes (getD (rangesOf e) 0 zeroRange) ++ rangeBytes (getD (rangesOf e) 1 zeroRange) ++ u16Bytes site
+
+-- a record read by itself: kind, A address, A length, B address, B length, site
+abbrev pub rangeValues : Range → List ℕ
+rangeValues r = r .address ∷ r .length ∷ []
+
+abbrev pub recordValues : Record → List ℕ
+recordValues r =
+    let ranges = rangesOf (r .event) in
+    kindOf (r .event) ∷ rangeValues (getD ranges 0 zeroRange) ++ rangeValues (getD ranges 1 zeroRange) ++ r .site ∷ []
+
+abbrev pub readReply : Parsed → Reply
+readReply (Read r) = Reply.values (recordValues r)
+readReply (Refused x) = Reply.refused (numberOf x) 0

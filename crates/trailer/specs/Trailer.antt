@@ -7,6 +7,8 @@ use lib.ListN.{length, take, drop}
 use Rattle.event.specs.declared.Refusal.the-variants.{TraceTooShort, TraceTooLong, MarkDiffers, BadLines, LengthDiffers}
 use Rattle.event.specs.declared.Check.{Check}
 use Rattle.event.specs.declared.Check.the-variants.{Passed, Refused as Breaks}
+use Rattle.event.specs.Numbers.{numberOf}
+use Rattle.event.specs.Reply.{Reply}
 use Rattle.window.specs.Window.{badLines}
 use Rattle.codec.specs.Codec.{u16At, u32At, u16Bytes, u32Bytes}
 use Rattle.records.specs.Record.{recordSize}
@@ -73,6 +75,11 @@ openedFor (Breaks x) t = Refused x
 
 unfoldable pub openedOf : List ℕ → Opened
 openedOf s = openedFor (firstBroken (fileLimits s)) (trailerOf s)
+
+-- a trailer read: offset, count, lines
+abbrev pub openedReply : Opened → Reply
+openedReply (Refused x) = Reply.refused (numberOf x) 0
+openedReply (Known t) = Reply.values (t .offset ∷ t .count ∷ t .lines ∷ [])
 
 -- a trailer as a writer would put it. That exactly these bytes are read as these fields says what the definitions above mean
 abbrev pub trailerWith : (offset count lines : ℕ) → List ℕ

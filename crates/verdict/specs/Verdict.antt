@@ -8,6 +8,8 @@ use Rattle.event.specs.declared.Record.{Record}
 use Rattle.event.specs.declared.Refusal.the-variants.{AreaTooShort}
 use Rattle.event.specs.declared.Answer.{Answer}
 use Rattle.event.specs.declared.Answer.the-variants.{Refused as NoFinding, Found}
+use Rattle.event.specs.Numbers.{numberOf}
+use Rattle.event.specs.Reply.{Reply}
 use Rattle.codec.specs.Codec.{findingSize, findingBytes}
 use Rattle.history.specs.History.{History}
 use Rattle.history.specs.Interval.{epochAt}
@@ -51,6 +53,11 @@ verdictFor Passed h found = Accepted (length h) (epochAt h (length h)) (reported
 
 unfoldable pub verdictOf : (trace area : List ℕ) → Verdict
 verdictOf trace area = verdictFor (traceCheck trace area) (historyOf trace) (answersOf trace)
+
+-- a trace: the refusal's number and its record's number, or events, fences and the count of findings other than none
+abbrev pub verdictReply : Verdict → Reply
+verdictReply (Refused x n) = Reply.refused (numberOf x) n
+verdictReply (Accepted events fences findings) = Reply.values (events ∷ fences ∷ findings ∷ [])
 
 -- the bytes of an event's finding, with its site
 abbrev pub bytesFor : Record → Answer → List ℕ

@@ -2,7 +2,7 @@
 use mathlib.Core.Path.{_≡_, refl}
 use mathlib.Core.Bool.{Bool, true}
 use mathlib.Core.Logic.{_⊎_, inl, inr, ⊎-elim}
-use mathlib.Core.List.{List, [], _∷_, map, List·Memᴰ, List·Memᴰ·head, List·Memᴰ·tail}
+use mathlib.Core.List.{List, [], _∷_, List·Memᴰ, List·Memᴰ·head, List·Memᴰ·tail}
 use Prim.Native.Nat.{ℕ, _+_, _*_, _≤_, _<_}
 use native.Mathlib.Omega.{arith}
 use lib.Dec.{eqb, leb}
@@ -12,14 +12,13 @@ use Rattle.event.specs.declared.Range.{Range}
 use Rattle.event.specs.declared.Event.{Event}
 use Rattle.event.specs.declared.Record.{Record}
 use Rattle.event.specs.declared.Refusal.{Refusal}
-use Rattle.event.specs.declared.Refusal.the-variants.{EmptyRange, PastWindow, EventsExhausted, NoTransaction, TooDeep}
 use Rattle.event.specs.Numbers.{kindOf, numberOf}
 use Rattle.window.specs.Window.{isEmpty, isPast, rangesOf, anyRange}
 use Rattle.event.proofs.Bools.{contradiction, and-left, and-right, both, or-cases, or-left, or-right}
 use Rattle.history.specs.History.{History, begins, logs, ends}
 use Rattle.history.specs.Transaction.{depth}
 use Rattle.history.specs.View.{ofHistory}
-use Rattle.history.specs.Refused.{Limit, limitsBy, First, NoneBroken, asksOpen}
+use Rattle.history.specs.Refused.{limitsBy, numbersOf, First, NoneBroken, asksOpen}
 use Rattle.history.specs.Given.{windowOf, RefusedBy, Accepted}
 
 -- the window is the one asked for, or one line where that is refused
@@ -31,12 +30,12 @@ window-refused asked (inl z) = rw (eq-eqb asked 0 z)
 window-refused asked (inr k) = rw (ne-eqb asked 0 (λ z. omega (arith, k, z)), lt-ltb 64 asked k)
 
 -- what each number says of an event after the history h
-pub data Applies (lines : ℕ) (h : History) (e : Event) : Refusal → Type 0 where
-  emptyRange : {a : Range} → List·Memᴰ a (rangesOf e) → a .length ≡ 0 → Applies lines h e EmptyRange
-  pastWindow : {a : Range} → List·Memᴰ a (rangesOf e) → lines * 64 < a .address + a .length → Applies lines h e PastWindow
-  exhausted : 65535 ≤ length h → Applies lines h e EventsExhausted
-  noTransaction : (kindOf e ≡ 5) ⊎ (kindOf e ≡ 6) → depth h ≡ 0 → Applies lines h e NoTransaction
-  tooDeep : kindOf e ≡ 4 → 8 ≤ depth h → Applies lines h e TooDeep
+pub data Applies (lines : ℕ) (h : History) (e : Event) : ℕ → Type 0 where
+  emptyRange : {a : Range} → List·Memᴰ a (rangesOf e) → a .length ≡ 0 → Applies lines h e 8
+  pastWindow : {a : Range} → List·Memᴰ a (rangesOf e) → lines * 64 < a .address + a .length → Applies lines h e 9
+  exhausted : 65535 ≤ length h → Applies lines h e 10
+  noTransaction : (kindOf e ≡ 5) ⊎ (kindOf e ≡ 6) → depth h ≡ 0 → Applies lines h e 11
+  tooDeep : kindOf e ≡ 4 → 8 ≤ depth h → Applies lines h e 12
 
 any-range : (p : Range → Bool) (rs : List Range) → anyRange p rs ≡ true → (a : Range) × List·Memᴰ a rs × (p a ≡ true)
 any-range p [] e = absurd (contradiction e refl)
@@ -58,11 +57,11 @@ asks-open e (inl k) = rw k
 asks-open e (inr k) = rw k
 
 -- the numbers are tried in the order 8, 9, 10, 11, 12
-pub limits-in-order : (lines : ℕ) (h : History) (e : Event) → map (λ (x : Limit). numberOf (x .number)) (limitsBy (ofHistory lines h) e) ≡ 8 ∷ 9 ∷ 10 ∷ 11 ∷ 12 ∷ []
+pub limits-in-order : (lines : ℕ) (h : History) (e : Event) → numbersOf (limitsBy (ofHistory lines h) e) ≡ 8 ∷ 9 ∷ 10 ∷ 11 ∷ 12 ∷ []
 limits-in-order lines h e = refl
 
 -- the number that refuses an event applies to it
-pub refused-applies : (lines : ℕ) (h : History) (r : Record) {x : Refusal} → RefusedBy lines h r x → Applies lines h (r .event) x
+pub refused-applies : (lines : ℕ) (h : History) (r : Record) {x : Refusal} → RefusedBy lines h r x → Applies lines h (r .event) (numberOf x)
 refused-applies lines h r (First.here t) =
     let a = any-range isEmpty (rangesOf (r .event)) t in
     Applies.emptyRange (a .1) (eqb-true _ 0 (a .2))
@@ -76,7 +75,7 @@ refused-applies lines h r (First.later a (First.later b (First.later c (First.la
     Applies.tooDeep (eqb-true (kindOf (r .event)) 4 (and-left (begins (r .event)) (leb 8 (depth h)) t)) (leb-true _ _ (and-right (begins (r .event)) (leb 8 (depth h)) t))
 
 -- and none applies to one that is accepted
-pub accepted-none : (lines : ℕ) (h : History) (r : Record) {x : Refusal} → Accepted lines h r → Applies lines h (r .event) x → ⊥
+pub accepted-none : (lines : ℕ) (h : History) (r : Record) {n : ℕ} → Accepted lines h r → Applies lines h (r .event) n → ⊥
 accepted-none lines h r (NoneBroken.cons f k) (Applies.emptyRange m e) = contradiction (range-any isEmpty m (eq-eqb _ 0 e)) f
 accepted-none lines h r (NoneBroken.cons a (NoneBroken.cons f k)) (Applies.pastWindow m e) = contradiction (range-any (isPast lines) m (lt-ltb _ _ e)) f
 accepted-none lines h r (NoneBroken.cons a (NoneBroken.cons b (NoneBroken.cons f k))) (Applies.exhausted e) = contradiction (le-leb _ _ e) f
