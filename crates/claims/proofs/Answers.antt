@@ -1,24 +1,20 @@
 -- The run after events given from a fresh window, and what it answers: what the accepted events say.
-use mathlib.Core.Path.{_≡_, refl, sym, ap, _∙_}
+use mathlib.Core.Path.{_≡_, refl, sym, _∙_}
 use mathlib.Core.Bool.{Bool, true, false, cond, _||_}
-use mathlib.Core.Logic.{_⊎_, inl, inr, _↔_}
-use mathlib.Core.List.{List, [], _∷_}
+use mathlib.Core.Logic.{_⊎_, inl, inr}
+use mathlib.Core.List.{List, []}
 use Prim.Native.Nat.{ℕ, _≤_}
 use native.Mathlib.Omega.{arith}
 use lib.Dec.{eqb, ltb}
 use lib.ListN.{length}
 use borrow.Author.Tests.{ltb-false}
 use Rattle.event.specs.declared.Record.{Record}
-use Rattle.event.specs.declared.Finding.{Finding}
-use Rattle.event.specs.declared.Finding.the-variants.{None, Holds, Lost, OutOfOrder, Unlogged, Clean, WrittenTwice, LoggedTwice, Empty}
 use Rattle.event.specs.declared.Refusal.{Refusal}
 use Rattle.event.specs.declared.Refusal.the-variants.{BadLines}
 use Rattle.event.specs.declared.Check.{Check}
 use Rattle.event.specs.declared.Check.the-variants.{Passed, Refused as Breaks}
-use Rattle.event.specs.declared.Answer.{Answer}
 use Rattle.event.specs.declared.Answer.the-variants.{Refused, Found}
-use Rattle.event.specs.Numbers.{fieldsOf}
-use Rattle.event.specs.Reply.{Reply, answerReply}
+use Rattle.event.specs.Reply.{Reply}
 use Rattle.window.specs.Window.{mostLines}
 use Rattle.history.specs.Interval.{epochAt}
 use Rattle.history.specs.Transaction.{depth}
@@ -38,7 +34,6 @@ use Rattle.engine.proofs.Histories.{taken-inside}
 use Rattle.engine.proofs.Answered.{Answered, answered}
 use Rattle.engine.proofs.Link.{same-view, tracks, same-answers, findings-counted}
 use Rattle.claims.specs.After.{runFrom, takenFrom, answersFrom}
-use Rattle.claims.specs.Demand3.{holds}
 
 -- a window has at most 64 lines
 pub window-fits : (asked : ℕ) → windowOf asked ≤ mostLines
@@ -111,27 +106,3 @@ module _ (asked : ℕ) (given : List Record) where
 -- an answer with values is no refusal
 pub not-refused : {r : Reply} {answer : List ℕ} {number at : ℕ} → r ≡ Reply.values answer → r ≡ Reply.refused number at → ⊥
 not-refused e f = let z : _≡_ {A = ℕ} 0 1 = cc in omega arith
-
--- kind 1 is the finding "holds"
-kind-one : (f : Finding) → answerReply (Found f) ≡ holds → f ≡ Holds
-kind-one f e = go f (ap kindIn e)
-  where
-    kindIn : Reply → ℕ
-    kindIn (Reply.values (kind ∷ rest)) = kind
-    kindIn (Reply.values []) = 0
-    kindIn (Reply.refused number at) = 0
-
-    go : (f : Finding) → fieldsOf f .kind ≡ 1 → f ≡ Holds
-    go None k = absurd (omega (arith, k))
-    go Holds k = refl
-    go (Lost lost moment store) k = absurd (omega (arith, k))
-    go (OutOfOrder lost kept moment store) k = absurd (omega (arith, k))
-    go (Unlogged lost) k = absurd (omega (arith, k))
-    go (Clean lost) k = absurd (omega (arith, k))
-    go (WrittenTwice lost) k = absurd (omega (arith, k))
-    go (LoggedTwice lost) k = absurd (omega (arith, k))
-    go Empty k = absurd (omega (arith, k))
-
--- so it is answered exactly when it is the finding
-pub holds-exactly : {P : Type 0} {a : Answer} {f : Finding} → a ≡ Found f → (f ≡ Holds) ↔ P → (answerReply a ≡ holds) ↔ P
-holds-exactly {f = f} e (to, from) = (λ k. to (kind-one f (sym (ap answerReply e) ∙ k)), λ p. ap answerReply (e ∙ ap Found (from p)))

@@ -21,7 +21,7 @@ use Rattle.history.specs.Given.{windowOf, RefusedBy, Accepted}
 use Rattle.history.specs.Small.{SmallRun, smallRuns, recorded, foundAll}
 use Rattle.history.proofs.Claim.{finding-claim}
 use Rattle.history.proofs.Given.{whole-claim, one-run}
-use Rattle.history.proofs.Exactly.{persisted-holds, ordered-holds, end-holds}
+use Rattle.history.proofs.Exactly.{claimed as claim-of, persisted-holds, ordered-holds, end-holds}
 use Rattle.history.proofs.Small.{small-runs}
 use Rattle.events.specs.declared.Given.{Given}
 use Rattle.events.specs.Give.{giveOf}
@@ -38,10 +38,11 @@ use Rattle.claims.specs.Demand1.{Demand1}
 use Rattle.claims.specs.Demand2.{Demand2}
 use Rattle.claims.specs.Demand3.{Demand3}
 use Rattle.claims.proofs.Paper.{persist-interval}
-use Rattle.claims.proofs.Answers.{limited, tracked, viewed, same, inside, decided, refused, taken, closing-totals, not-refused, holds-exactly}
+use Rattle.claims.proofs.Answers.{limited, tracked, viewed, same, inside, decided, refused, taken, closing-totals, not-refused}
 use Rattle.claims.proofs.Records.{read-refused, read-taken}
 use Rattle.claims.proofs.Traces.{records-decided, trailer-refused, trailer-taken, trace-refused, record-refused, trace-open, trace-taken}
 use Rattle.claims.proofs.Singly.{given-singly}
+use Rattle.claims.proofs.Failure.{holds-exactly, else-lost, else-out-of-order, else-end-lost}
 
 -- a fresh window
 window-refused : (asked : ℕ) → (asked ≡ 0) ⊎ (mostLines < asked) →
@@ -131,8 +132,11 @@ demand3 =
       claim = λ asked given. rw (same asked given) (whole-claim asked given);
       only = λ asked given others k. one-run k (whole-claim asked given) ∙ sym (ap (map answerReply) (same asked given));
       persisted = λ asked given r k e. holds-exactly (taken asked given r k) (persisted-holds (windowOf asked) (takenFrom asked given) (inside asked given) r e);
+      persistedLost = λ asked given r k e. else-lost (taken asked given r k) (claim-of (windowOf asked) (takenFrom asked given) (inside asked given) r e);
       ordered = λ asked given r k e. holds-exactly (taken asked given r k) (ordered-holds (windowOf asked) (takenFrom asked given) (inside asked given) r e);
+      orderedOutOfOrder = λ asked given r k e. else-out-of-order (taken asked given r k) (claim-of (windowOf asked) (takenFrom asked given) (inside asked given) r e);
       ends = λ asked given r k e d s. holds-exactly (taken asked given r k) (end-holds (windowOf asked) (takenFrom asked given) (inside asked given) r e d s);
+      endsLost = λ asked given r k e d s. else-end-lost (taken asked given r k) (claim-of (windowOf asked) (takenFrom asked given) (inside asked given) r e) d s;
       totals = λ asked given d. ap closingReply (closing-totals asked given d);
       traces = given-singly;
       starred = starred;

@@ -8,4 +8,5 @@ pub mod Records  -- the limits on a record, and what reading and checking it say
 pub mod Traces  -- which traces are refused, by which number and at which record
 pub mod Area  -- records that are all taken, and the bytes of their findings
 pub mod Singly  -- an accepted trace has the findings and totals of its events given singly
+pub mod Failure  -- an assertion that does not hold is lost or out of order
 pub mod Demands  -- the demands hold

@@ -2,7 +2,7 @@
 -- assertion, and a failure names a real crash image, the first by address.
 use mathlib.Core.Path.{_≡_}
 use mathlib.Core.Bool.{true}
-use mathlib.Core.Logic.{_↔_}
+use mathlib.Core.Logic.{_⊎_, _↔_}
 use mathlib.Core.List.{List, [], _∷_, map}
 use Prim.Native.Nat.{ℕ, suc}
 use lib.ListN.{length}
@@ -22,11 +22,8 @@ use Rattle.engine.specs.Call.{closeOf}
 use Rattle.engine.specs.Reply.{givenReply, closingReply}
 use Rattle.verdict.specs.Verdict.{verdictOf, verdictReply}
 use Rattle.claims.specs.After.{runFrom, takenFrom, answersFrom, repliesFrom}
+use Rattle.claims.specs.Failure.{holds, LostAt, OutOfOrderAt}
 use Rattle.claims.specs.Traces.{GivenSingly}
-
--- the finding "holds": kind 1, and no field
-abbrev pub holds : Reply
-holds = Reply.values (1 ∷ 0 ∷ 0 ∷ 0 ∷ 0 ∷ [])
 
 pub record Demand3 : Type 0 where
   -- the answers meet the claim: each event is refused by the first number that applies, or no number applies and its finding's
@@ -40,16 +37,31 @@ pub record Demand3 : Type 0 where
       Accepted (windowOf asked) h r → r .event ≡ Persisted a →
       (givenReply (giveOf (runFrom asked given) r) ≡ holds) ↔
       ((b : ℕ) → BrokenByte (r ∷ h) (suc (length h)) (λ b. covers a b ≡ true) b → ⊥)
+  -- otherwise it is lost
+  pub persistedLost : (asked : ℕ) (given : List Record) (r : Record) {a : Range} → let h = takenFrom asked given in
+      let answer = givenReply (giveOf (runFrom asked given) r) in
+      Accepted (windowOf asked) h r → r .event ≡ Persisted a →
+      (answer ≡ holds) ⊎ LostAt (r ∷ h) (suc (length h)) (λ b. covers a b ≡ true) answer
   -- an accepted ordered, exactly when no pair of a kept byte of B and a lost byte of A is broken
   pub ordered : (asked : ℕ) (given : List Record) (r : Record) {a b : Range} → let h = takenFrom asked given in
       Accepted (windowOf asked) h r → r .event ≡ Ordered a b →
       (givenReply (giveOf (runFrom asked given) r) ≡ holds) ↔
       ((kept lost : ℕ) → BrokenPair (r ∷ h) (suc (length h)) a b kept lost → ⊥)
+  -- otherwise it is out of order
+  pub orderedOutOfOrder : (asked : ℕ) (given : List Record) (r : Record) {a b : Range} → let h = takenFrom asked given in
+      let answer = givenReply (giveOf (runFrom asked given) r) in
+      Accepted (windowOf asked) h r → r .event ≡ Ordered a b →
+      (answer ≡ holds) ⊎ OutOfOrderAt (r ∷ h) (suc (length h)) a b answer
   -- an accepted outermost end with a store since its begin, exactly when no byte stored since its begin is broken
   pub ends : (asked : ℕ) (given : List Record) (r : Record) → let h = takenFrom asked given in
       Accepted (windowOf asked) h r → r .event ≡ End → depth h ≡ 1 → Since h stores →
       (givenReply (giveOf (runFrom asked given) r) ≡ holds) ↔
       ((b : ℕ) → BrokenByte (r ∷ h) (suc (length h)) (λ b. Since h (storesByte b)) b → ⊥)
+  -- otherwise it is lost
+  pub endsLost : (asked : ℕ) (given : List Record) (r : Record) → let h = takenFrom asked given in
+      let answer = givenReply (giveOf (runFrom asked given) r) in
+      Accepted (windowOf asked) h r → r .event ≡ End → depth h ≡ 1 → Since h stores →
+      (answer ≡ holds) ⊎ LostAt (r ∷ h) (suc (length h)) (λ b. Since h (storesByte b)) answer
   -- the totals at closing: the accepted events, the fences among them, and the findings other than none
   pub totals : (asked : ℕ) (given : List Record) → let h = takenFrom asked given in depth h ≡ 0 →
       closingReply (closeOf (runFrom asked given)) ≡ Reply.values (length h ∷ epochAt h (length h) ∷ reported (answersFrom asked given) ∷ [])

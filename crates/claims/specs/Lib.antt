@@ -5,4 +5,5 @@ pub mod Traces  -- the first record of a trace that is refused; the findings are
 pub mod Demand1  -- refusals: by the first number that applies, by none otherwise, and the run is then what it was
 pub mod Paper  -- the rules of paper 000, section 4.4
 pub mod Demand2  -- intervals, transaction findings and warnings
+pub mod Failure  -- the answers "holds", "lost" and "out-of-order"
 pub mod Demand3  -- "holds" exactly when no allowed crash image breaks the assertion; a failure shows one

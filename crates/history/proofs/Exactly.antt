@@ -36,7 +36,7 @@ ended-holds-none (Ended.empty d s) e = let z : _≡_ {A = ℕ} 0 1 = cc in absur
 ended-holds-none (Ended.outermost d s x) e = persists-holds x e
 
 module _ (lines : ℕ) (h : History) (inside : Inside lines h) (r : Record) where
-  claimed : {e : Event} → r .event ≡ e → ClaimOf h (r ∷ h) (suc (length h)) e (findingBy (ofHistory lines h) (r .event))
+  pub claimed : {e : Event} → r .event ≡ e → ClaimOf h (r ∷ h) (suc (length h)) e (findingBy (ofHistory lines h) (r .event))
   claimed k = subst (λ (e : Event). ClaimOf h (r ∷ h) (suc (length h)) e (findingBy (ofHistory lines h) (r .event))) k (finding-claim lines h inside r)
 
   pub persisted-holds : {a : Range} → r .event ≡ Persisted a →
