@@ -25,7 +25,8 @@ fn answer_of(v: Verdict) -> [u32; 5]
 //                        uint8_t *area, size_t area_length, uint32_t answer[5]);
 //
 // The answer: the refusal's number, 0 where the trace is accepted; the number of the record refused; events, fences, and findings
-// other than none. No pointer is null, and neither area nor answer shares a byte with another of the three.
+// other than none. No pointer is null, and neither area nor answer shares a byte with another of the three. A call takes about 100 KB of
+// the caller's stack: 65,520 bytes for findings and 33,024 for tables, and little more.
 #[no_mangle]
 pub extern "C" fn pmjudge_judge(trace: &[u8], area: &mut [u8], answer: &mut [u32; 5])
     ensures { λ _. ⌜ now (answer .exit) ≡ fiveNumbers (verdictReply (verdictOf (now (trace .entry)) (now (area .entry)))) ⌝ }
