@@ -24,7 +24,7 @@ usage:
   harness fuzz [STRINGS [SEED]]          give the proved judge arbitrary strings of bytes
                                          (1,000,000 of seed 1)
   harness bench [SVG]                    time the proved judge beside an implementation in plain Rust
-                                         and a checker in the way of PMTest; the plot goes to SVG
+                                         and a checker of ranges as PMTest has them; the plot goes to SVG
   harness growth                         time it against the records of a trace and the bytes named
   harness --help                         print this text
 

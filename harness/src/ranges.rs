@@ -1,4 +1,4 @@
-//! A checker in the way of PMTest, not proved: shadow memory is an ordered map from address ranges to
+//! A checker of address ranges as PMTest has them, not proved: shadow memory is an ordered map from address ranges to
 //! what is known of them, and assertions compare persist intervals.
 //!
 //! It takes the same traces and writes the same findings as the judge. One rule is PMTest's: `ordered`

@@ -16,7 +16,7 @@ use Rattle.records.specs.Record.{recordOf, parsed, recordValues, readReply}
 use Rattle.history.specs.History.{History}
 use Rattle.history.specs.Transaction.{depth}
 use Rattle.history.specs.View.{ofHistory}
-use Rattle.history.specs.Refused.{limitsBy, numbersOf, First, NoneBroken}
+use Rattle.history.specs.Refused.{limitsBy, limitNumbers, First, NoneBroken}
 use Rattle.history.specs.Given.{windowOf, RefusedBy, Accepted}
 use Rattle.events.specs.Give.{giveOf}
 use Rattle.engine.specs.Call.{emptyRun, freshOf, askOf, closeOf}
@@ -33,7 +33,7 @@ pub record Demand1 : Type 0 where
   pub windowTaken : (asked : ℕ) → 1 ≤ asked → asked ≤ mostLines →
       (windowReply (freshOf asked) ≡ Reply.values []) × (freshOf asked .run ≡ emptyRun asked)
   -- an event given singly: the first of 8, 9, 10, 11, 12 that applies after the accepted events; the run is as it was
-  pub eventNumbers : (lines : ℕ) (h : History) (e : Event) → numbersOf (limitsBy (ofHistory lines h) e) ≡ 8 ∷ 9 ∷ 10 ∷ 11 ∷ 12 ∷ []
+  pub eventNumbers : (lines : ℕ) (h : History) (e : Event) → limitNumbers (limitsBy (ofHistory lines h) e) ≡ 8 ∷ 9 ∷ 10 ∷ 11 ∷ 12 ∷ []
   pub eventRefused : (asked : ℕ) (given : List Record) (r : Record) {x : Refusal} → RefusedBy (windowOf asked) (takenFrom asked given) r x →
       (givenReply (giveOf (runFrom asked given) r) ≡ Reply.refused (numberOf x) 0) × (giveOf (runFrom asked given) r .run ≡ runFrom asked given)
   pub eventTaken : (asked : ℕ) (given : List Record) (r : Record) → Accepted (windowOf asked) (takenFrom asked given) r →
@@ -58,11 +58,11 @@ pub record Demand1 : Type 0 where
   pub trailerTaken : (s : List ℕ) → NoneBroken (fileLimits s) →
       openedReply (openedOf s) ≡ Reply.values (trailerOf s .offset ∷ trailerOf s .count ∷ trailerOf s .lines ∷ [])
   -- a trace: the first of 1, 2, 3, 4, 5, 14 that applies, at 0
-  pub traceNumbers : (trace area : List ℕ) → numbersOf (traceLimits trace area) ≡ 1 ∷ 2 ∷ 3 ∷ 4 ∷ 5 ∷ 14 ∷ []
+  pub traceNumbers : (trace area : List ℕ) → limitNumbers (traceLimits trace area) ≡ 1 ∷ 2 ∷ 3 ∷ 4 ∷ 5 ∷ 14 ∷ []
   pub traceRefused : (trace area : List ℕ) {x : Refusal} → First (traceLimits trace area) x → Rejected trace area (numberOf x) 0
   pub traceLimited : (trace area : List ℕ) → ((x : Refusal) × First (traceLimits trace area) x) ⊎ NoneBroken (traceLimits trace area)
   -- else the first record to which one of 6, 7, 8, 9, 10, 11, 12 applies, by the first that does, at the record's number from 1
-  pub recordNumbers : (lines : ℕ) (h : History) (s : List ℕ) → numbersOf (recordLimits lines h s) ≡ 6 ∷ 7 ∷ 8 ∷ 9 ∷ 10 ∷ 11 ∷ 12 ∷ []
+  pub recordNumbers : (lines : ℕ) (h : History) (s : List ℕ) → limitNumbers (recordLimits lines h s) ≡ 6 ∷ 7 ∷ 8 ∷ 9 ∷ 10 ∷ 11 ∷ 12 ∷ []
   pub recordRefused : (trace area : List ℕ) {x : Refusal} {n : ℕ} → NoneBroken (traceLimits trace area) → StopsAt trace x n →
       Rejected trace area (numberOf x) n
   pub recordsDecided : (trace : List ℕ) → ((x : Refusal) × (n : ℕ) × StopsAt trace x n) ⊎ ((h : History) × TakesAll trace h)

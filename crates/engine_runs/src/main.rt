@@ -1,5 +1,5 @@
 // Makes the calls on standard input, which the unrelated checker wrote, and prints an answer line for each: fresh windows, events given
-// singly, bytes asked and closings. A call has 12 bytes.
+// singly, bytes asked and closings. Fences given many at a time have no line. A call has 12 bytes.
 use libc::STDIN_FILENO;
 
 mod calls; // the calls of the engine, printed

@@ -45,8 +45,8 @@ limitsBy v e =
     []
 
 -- the paper's numbers of limits, in their order
-abbrev pub numbersOf : List Limit → List ℕ
-numbersOf limits = map (λ (x : Limit). numberOf (x .number)) limits
+abbrev pub limitNumbers : List Limit → List ℕ
+limitNumbers limits = map (λ (x : Limit). numberOf (x .number)) limits
 
 -- a number applies first: its limit is broken, and none before it is
 pub data First : List Limit → Refusal → Type 0 where

@@ -17,8 +17,8 @@ use Rattle.history.proofs.Given.{Checked, checked}
 use Rattle.limits.specs.Limits.{numbersOf}
 
 -- no limit is broken where the check passes
-pub none-broken : (limits : List Limit) → firstBroken limits ≡ Passed → NoneBroken limits
-none-broken limits e = go (firstBroken limits) (checked limits) e
+pub passed-unbroken : (limits : List Limit) → firstBroken limits ≡ Passed → NoneBroken limits
+passed-unbroken limits e = go (firstBroken limits) (checked limits) e
   where
     go : (c : Check) → Checked limits c → c ≡ Passed → NoneBroken limits
     go Passed (Checked.none k) f = k
@@ -34,7 +34,7 @@ pub record Passes (lines events depth : ℕ) (e : Event) : Type 0 where
 module _ (lines events depth : ℕ) where
   pub passed : (e : Event) → refusalBy (numbersOf lines events depth) e ≡ Passed → Passes lines events depth e
   unfolding refusalBy
-  passed e k = go (none-broken (limitsBy (numbersOf lines events depth) e) k)
+  passed e k = go (passed-unbroken (limitsBy (numbersOf lines events depth) e) k)
     where
       go : NoneBroken (limitsBy (numbersOf lines events depth) e) → Passes lines events depth e
       go (NoneBroken.cons a (NoneBroken.cons b (NoneBroken.cons c (NoneBroken.cons d (NoneBroken.cons f g))))) =

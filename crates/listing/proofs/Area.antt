@@ -21,7 +21,7 @@ use Rattle.history.specs.View.{ofHistory}
 use Rattle.history.specs.Refused.{firstBroken, NoneBroken, refusalBy}
 use Rattle.history.specs.Found.{findingBy}
 use Rattle.history.specs.Given.{answerOf, accepted, answers}
-use Rattle.limits.proofs.Passed.{none-broken}
+use Rattle.limits.proofs.Passed.{passed-unbroken}
 use Rattle.trailer.specs.declared.Trailer.{Trailer}
 use Rattle.trace.specs.declared.TraceCheck.the-variants.{Passed}
 use Rattle.trailer.specs.Trailer.{mostBytes, trailerOf, endOf}
@@ -123,7 +123,7 @@ module _ (trace area : List ℕ) (accepts : traceCheck trace area ≡ Passed) wh
 
   -- there are at most 5,460 of them: 12 bytes each, and 16 for the trailer, in 65,536
   pub events-few : length (eventsIn trace) ≤ 5460
-  events-few = go (none-broken (traceLimits trace area) (both-pass .0))
+  events-few = go (passed-unbroken (traceLimits trace area) (both-pass .0))
     where
       t : Trailer
       t = trailerOf trace

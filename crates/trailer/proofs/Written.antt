@@ -11,7 +11,7 @@ use Rattle.event.specs.declared.Check.the-variants.{Passed, Refused as Breaks}
 use Rattle.codec.specs.Codec.{u16At, u32At, u16Bytes, u32Bytes}
 use Rattle.codec.proofs.Meaning.{u16-round-trip, u32-round-trip, u16-bytes, u32-bytes}
 use Rattle.history.specs.Refused.{firstBroken, NoneBroken}
-use Rattle.limits.proofs.Passed.{none-broken}
+use Rattle.limits.proofs.Passed.{passed-unbroken}
 use Rattle.trailer.specs.declared.Trailer.{Trailer}
 use Rattle.trailer.specs.declared.Opened.the-variants.{Known}
 use Rattle.trailer.specs.Trailer.{trailerSize, mark, trailerBytes, hasMark, trailerFrom, trailerOf, trailerWith, fileLimits, openedFor, openedOf}
@@ -60,7 +60,7 @@ unfolding openedOf
 opened s {t} e = go (firstBroken (fileLimits s)) refl e
   where
     go : (c : Check) → firstBroken (fileLimits s) ≡ c → openedFor c (trailerOf s) ≡ Known t → WithinLimits s t
-    go Passed f k = record { limits = none-broken (fileLimits s) f; trailer = cc }
+    go Passed f k = record { limits = passed-unbroken (fileLimits s) f; trailer = cc }
     go (Breaks x) f k = let z : _≡_ {A = ℕ} 0 1 = cc in absurd (omega arith)
 
 module _ (s : List ℕ) (small : (i : ℕ) → getD s i 0 < 256) where

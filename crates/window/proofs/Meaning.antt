@@ -8,7 +8,7 @@ use native.Mathlib.Omega.{arith}
 use lib.Dec.{leb, ltb}
 use borrow.Author.Tests.{not-true, eqb-false, ne-eqb, leb-true, le-leb, ltb-true, ltb-false, lt-ltb}
 use Rattle.event.specs.declared.Range.{Range}
-use Rattle.window.specs.Window.{windowBytes, lineOf, lineStart, rangeEnd, covers, isEmpty, touches, lineCount, isPast}
+use Rattle.window.specs.Window.{mostLines, windowBytes, lineOf, lineStart, rangeEnd, covers, isEmpty, touches, lineCount, isPast}
 use Rattle.event.proofs.Bools.{and-left, and-right, both}
 
 -- A range covers the bytes from its address on that lie before its end.
@@ -75,6 +75,13 @@ below-touched r line from to = go (isEmpty r) refl
 -- A line starts at its first byte.
 pub line-start-is-first : (line : ℕ) → line < 64 → (lineOf (lineStart line) ≡ line) × ((byte : ℕ) → lineOf byte ≡ line → lineStart line ≤ byte)
 line-start-is-first line h = simp (lt-ltb line 64 h) (omega arith)
+
+-- The largest address is 4,095: no window has one beyond, and the largest window has this one.
+pub largest-address : (lines byte : ℕ) → lines ≤ mostLines → byte < windowBytes lines → byte ≤ 4095
+largest-address lines byte few inside = omega arith
+
+pub largest-is-one : 4095 < windowBytes mostLines
+largest-is-one = omega arith
 
 -- A range that does not run past the window covers only bytes of the window.
 pub inside-window : (lines : ℕ) (r : Range) → isPast lines r ≡ false → (byte : ℕ) → covers r byte ≡ true → byte < windowBytes lines

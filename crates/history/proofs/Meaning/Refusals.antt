@@ -18,7 +18,7 @@ use Rattle.event.proofs.Bools.{contradiction, and-left, and-right, both, or-cas
 use Rattle.history.specs.History.{History, begins, logs, ends}
 use Rattle.history.specs.Transaction.{depth}
 use Rattle.history.specs.View.{ofHistory}
-use Rattle.history.specs.Refused.{limitsBy, numbersOf, First, NoneBroken, asksOpen}
+use Rattle.history.specs.Refused.{limitsBy, limitNumbers, First, NoneBroken, asksOpen}
 use Rattle.history.specs.Given.{windowOf, RefusedBy, Accepted}
 
 -- the window is the one asked for, or one line where that is refused
@@ -57,7 +57,7 @@ asks-open e (inl k) = rw k
 asks-open e (inr k) = rw k
 
 -- the numbers are tried in the order 8, 9, 10, 11, 12
-pub limits-in-order : (lines : ℕ) (h : History) (e : Event) → numbersOf (limitsBy (ofHistory lines h) e) ≡ 8 ∷ 9 ∷ 10 ∷ 11 ∷ 12 ∷ []
+pub limits-in-order : (lines : ℕ) (h : History) (e : Event) → limitNumbers (limitsBy (ofHistory lines h) e) ≡ 8 ∷ 9 ∷ 10 ∷ 11 ∷ 12 ∷ []
 limits-in-order lines h e = refl
 
 -- the number that refuses an event applies to it
