@@ -60,8 +60,8 @@ fn any_lost(
     found
 }
 
-// The n bytes from `at` on are looked at eight by eight: the first place of the first eight in which it may lose one, or the place after
-// the last whole eight.
+// The n bytes from `at` on are looked at in groups of eight: the start of the first group of which it may lose a byte, or the place after
+// the last whole group.
 fn skip_lost(
     stored: &[u16; 4096],
     closed: &[u16; 4096],

@@ -105,7 +105,7 @@ module _ (p : ℕ → Bool) (at n x : ℕ) (same : left p (at + n) x ≡ left p 
       let here : left p (at + n) x ≡ some y = left-add p (at + n) x m h ∙ rw e in
       ap searched (sym here ∙ same ∙ left-all p at n)
 
-  -- it goes on after eight of which none does
+  -- it goes on after one in which nothing does
   pub part-later : (m : ℕ) → x + m ≤ at + n → lowest p x m ≡ none → left p (at + n) (x + m) ≡ left p (at + n) at
   part-later m h e = left-part p (at + n) x m h e ∙ same
 
@@ -117,7 +117,7 @@ module _ (p : ℕ → Bool) (at n x : ℕ) (same : left p (at + n) x ≡ left p 
 abbrev pub leftSkip : (ℕ → Bool) → ℕ → ℕ → ℕ
 leftSkip p end x = skipped p x ((end - x) / 8)
 
--- after each step eight less are left
+-- after each group eight less are left
 eight-less : (end x : ℕ) → x + 8 ≤ end → (end - x) / 8 ≡ suc ((end - (x + 8)) / 8)
 eight-less end x h = omega arith
 
@@ -127,12 +127,12 @@ module _ (p : ℕ → Bool) (at n x : ℕ) (same : leftSkip p (at + n) x ≡ lef
   whole : leftSkip p (at + n) x ≡ skipped p at (n / 8)
   whole = let e : at + n - at ≡ n = omega arith in rw e at same
 
-  -- it ends at eight of which one passes
+  -- it ends at a group of which a number passes
   pub skip-here : x + 8 ≤ at + n → isFound (lowest p x 8) ≡ true → x ≡ skipped p at (n / 8)
   unfolding skipped
   skip-here h e = let here : leftSkip p (at + n) x ≡ x = rw (eight-less (at + n) x h, e) in sym here ∙ whole
 
-  -- it goes on after eight of which none does
+  -- it goes on after one of which none does
   pub skip-next : x + 8 ≤ at + n → isFound (lowest p x 8) ≡ false → leftSkip p (at + n) (x + 8) ≡ leftSkip p (at + n) at
   unfolding skipped
   skip-next h e = let next : leftSkip p (at + n) (x + 8) ≡ leftSkip p (at + n) x = rw (eight-less (at + n) x h, e) in next ∙ same
@@ -145,7 +145,7 @@ module _ (p : ℕ → Bool) (at n x : ℕ) (same : leftSkip p (at + n) x ≡ lef
       let here : leftSkip p (at + n) x ≡ x = rw e in
       sym here ∙ whole
 
--- after so many times eight passed over, the search over what is left is the same
+-- after some groups passed over, the search over what is left is the same
 skip-left : (p : ℕ → Bool) (end k x : ℕ) → x + k * 8 ≤ end →
     (skipped p x k ≤ end) × (left p end (skipped p x k) ≡ left p end x)
 unfolding skipped

@@ -27,8 +27,7 @@ abbrev pub isFound : Option ℕ → Bool
 isFound none = false
 isFound (some x) = true
 
--- so many times eight numbers from a place on, looked at eight by eight: the place of the first eight of which one passes, or the place
--- after them all
+-- so many groups of eight numbers from a place on: the start of the first group of which a number passes, or the place after them all
 unfoldable pub skipped : (ℕ → Bool) → ℕ → ℕ → ℕ
 skipped p at zero = at
 skipped p at (suc n) = let rest = skipped p (at + 8) n in cond (isFound (lowest p at 8)) at rest

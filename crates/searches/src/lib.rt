@@ -66,8 +66,8 @@ pub fn any_of_eight(test: Test, xs: &[u16; 64], ys: &[u16; 64], at: usize) -> bo
     }
 }
 
-// The n entries from `at` on are looked at eight by eight: the first place of the first eight with such a byte or line, or the place after
-// the last whole eight.
+// The n entries from `at` on are looked at in groups of eight: the start of the first group that has such a byte or line, or the place
+// after the last whole group.
 fn skip(test: Test, xs: &[u16], ys: &[u16], at: usize, n: usize) -> usize
     requires { ⌜ (at + n ≤ 4096) × (at + n ≤ length (now xs)) × (at + n ≤ length (now ys)) ⌝ }
     ensures { λ r. ⌜ r ≡ skipped (passing test (now (xs .entry)) (now (ys .entry))) at (n / 8) ⌝ }

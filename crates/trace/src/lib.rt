@@ -7,7 +7,7 @@ ghost use lib.ListN.{drop};
 ghost use Rattle.records.specs.Record.{recordSize, parsed};
 ghost use Rattle.trace.specs.Records.{recordPart};
 
-// What a check of all records says; `record` counts from 1, and is 0 at the closing.
+// What a check of all records says; `record` counts from 1, and is 0 at the closing. The judge makes its answer, a verdict, of it.
 pub enum TraceCheck {
     Passed,
     Refused { refusal: Refusal, record: u32 },
