@@ -81,8 +81,8 @@ pub fn store(
     ensures { λ _. ⌜ now (closed .exit) ≡ filledBytes 0 (inTables a) (now (closed .entry)) ⌝ }
     ensures { λ _. ⌜ now (dirtied .exit) ≡ filledLines number (inTables a) (now (dirtied .entry)) ⌝ }
 {
-    let part = tables::in_tables(a);
-    fill_stored(stored, opened, closed, part, number, epoch);
+    let bytes = tables::in_tables(a);
+    fill_stored(stored, opened, closed, bytes, number, epoch);
     fill_lines(dirtied, a, number);
 }
 
