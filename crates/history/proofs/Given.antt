@@ -5,7 +5,7 @@ use mathlib.Core.List.{List, [], _∷_, map}
 use Prim.Native.Nat.{ℕ, suc, _<_}
 use native.Mathlib.Decide.{ℕ-discrete as decEq}
 use lib.ListN.{length}
-use Rattle.event.specs.declared.Event.{Event}
+use borrow.Author.Tests.{ltb-true}
 use Rattle.event.specs.declared.Record.{Record}
 use Rattle.event.specs.declared.Finding.{Finding}
 use Rattle.event.specs.declared.Refusal.{Refusal}
@@ -15,7 +15,7 @@ use Rattle.event.specs.declared.Answer.the-variants.{Refused, Found}
 use Rattle.event.specs.Numbers.{numberOf}
 use Rattle.event.specs.Reply.{Reply, findingValues, answerReply}
 use Rattle.window.specs.Window.{windowBytes, isPast, rangesOf, anyRange}
-use Rattle.event.proofs.Bools.{contradiction, and-right}
+use Rattle.event.proofs.Bools.{contradiction, fails, and-right}
 use Rattle.history.specs.History.{History, is, stores, coversByte, storesByte}
 use Rattle.history.specs.View.{ofHistory}
 use Rattle.history.specs.Refused.{Limit, limitsBy, First, NoneBroken, firstBroken, refusalBy}
@@ -25,6 +25,7 @@ use Rattle.history.proofs.History.{is-newest, is-older}
 use Rattle.history.proofs.Window.{covers-inside}
 use Rattle.history.proofs.Claim.{Inside, finding-claim}
 use Rattle.history.proofs.Unique.{one-finding}
+use Rattle.history.proofs.Meaning.Refusals.{Applies, any-range, accepted-none}
 
 -- what the check of limits says: the first number that applies, or that none does
 pub data Checked (limits : List Limit) : Check → Type 0 where
@@ -69,8 +70,8 @@ not-both (First.here a) (NoneBroken.cons b c) = contradiction a b
 not-both (First.later a b) (NoneBroken.cons c d) = not-both b d
 
 -- what no number refuses lies in the window
-within : (lines : ℕ) (h : History) (e : Event) → NoneBroken (limitsBy (ofHistory lines h) e) → anyRange (isPast lines) (rangesOf e) ≡ false
-within lines h e (NoneBroken.cons a (NoneBroken.cons b c)) = b
+within : (lines : ℕ) (h : History) (r : Record) → Accepted lines h r → anyRange (isPast lines) (rangesOf (r .event)) ≡ false
+within lines h r k = fails _ (λ e. let a = any-range (isPast lines) (rangesOf (r .event)) e in accepted-none lines h r k (Applies.pastWindow (a .1) (ltb-true _ _ (a .2))))
 
 pub inside-empty : (lines : ℕ) → Inside lines []
 unfolding is
@@ -80,7 +81,7 @@ pub inside-taken : (lines : ℕ) (h : History) (r : Record) → Inside lines h �
 inside-taken lines h r inside k s b t = go (decEq s (suc (length h)))
   where
     go : Dec (s ≡ suc (length h)) → b < windowBytes lines
-    go (yes e) = covers-inside lines b (rangesOf (r .event)) (within lines h (r .event) k) (and-right (stores (r .event)) (coversByte b (r .event)) (sym (is-newest (storesByte b) r h) ∙ (rw e at t)))
+    go (yes e) = covers-inside lines b (rangesOf (r .event)) (within lines h r k) (and-right (stores (r .event)) (coversByte b (r .event)) (sym (is-newest (storesByte b) r h) ∙ (rw e at t)))
     go (no e) = inside s b (sym (is-older (storesByte b) r h s e) ∙ t)
 
 -- the claim over the whole list, from any history whose stores lie in the window

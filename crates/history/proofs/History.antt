@@ -1,5 +1,5 @@
 -- Laws of event numbers, over any test on events.
-use mathlib.Core.Path.{_≡_, refl, sym, _∙_, fun-ext}
+use mathlib.Core.Path.{_≡_, refl, sym, ap, _∙_, fun-ext}
 use mathlib.Core.Bool.{Bool, true, false, cond}
 use mathlib.Core.List.{[], _∷_}
 use mathlib.Core.Logic.{_≢_}
@@ -20,7 +20,7 @@ module _ (p : Event → Bool) where
   -- the newest event has the number of all of them
   pub is-newest : (r : Record) (h : History) → is p (r ∷ h) (suc (length h)) ≡ p (r .event)
   unfolding is
-  is-newest r h = rw (eq-eqb (suc (length h)) (suc (length h)) refl)
+  is-newest r h = ap (λ (b : Bool). cond b (p (r .event)) (is p h (suc (length h)))) (eq-eqb (suc (length h)) (suc (length h)) refl)
 
   -- any other number is that of an earlier event
   pub is-older : (r : Record) (h : History) (i : ℕ) → (i ≡ suc (length h) → ⊥) → is p (r ∷ h) i ≡ is p h i

@@ -45,6 +45,17 @@ module _ (h : History) where
   pub loses-risk : {b : ℕ} {i : Image} → Allowed h i → LostIn h i b → Risk b (i .moment)
   loses-risk {b} {i} a x = record { stored = x .stored; free = λ f. x .loses (a .least (lineOf b) (lastStore h b) (last-store-on-line h b (x .stored)) f) }
 
+  -- an allowed image that keeps a byte has a moment no earlier than the byte's last store
+  kept-happened : {b : ℕ} {i : Image} → Allowed h i → KeptIn h i b → lastStore h b ≤ i .moment
+  kept-happened {b} {i} a x = go (decLe (lastStore h b) (i .moment))
+    where
+      go : Dec (lastStore h b ≤ i .moment) → lastStore h b ≤ i .moment
+      go (yes k) = k
+      go (no k) =
+          let most : i .survivors (lineOf b) ≤ pieces h (lineOf b) (i .moment) = a .most (lineOf b) in
+          let keeps : pieces h (lineOf b) (lastStore h b) ≤ i .survivors (lineOf b) = x .keeps in
+          absurd (omega (arith, pieces-less (lineOf b) {m = i .moment} (omega arith) (last-store-on-line h b (x .stored))))
+
   -- the image meant, on the lost byte's line and on the others
   meant-here : (m b : ℕ) → meant h m b .survivors (lineOf b) ≡ pieces h (lineOf b) (min m (pred (lastStore h b)))
   meant-here m b = rw (eq-eqb (lineOf b) (lineOf b) refl)
@@ -92,17 +103,6 @@ module _ (h : History) where
 
   pub broken-risk : (b n : ℕ) → PersistedBroken h n b → Risk b n
   broken-risk b n x = subst (λ (m : ℕ). Risk b m) (x .moment) (loses-risk (x .allowed) (x .loses))
-
-  -- an allowed image that keeps a byte has a moment no earlier than the byte's last store
-  kept-happened : {b : ℕ} {i : Image} → Allowed h i → KeptIn h i b → lastStore h b ≤ i .moment
-  kept-happened {b} {i} a x = go (decLe (lastStore h b) (i .moment))
-    where
-      go : Dec (lastStore h b ≤ i .moment) → lastStore h b ≤ i .moment
-      go (yes k) = k
-      go (no k) =
-          let most : i .survivors (lineOf b) ≤ pieces h (lineOf b) (i .moment) = a .most (lineOf b) in
-          let keeps : pieces h (lineOf b) (lastStore h b) ≤ i .survivors (lineOf b) = x .keeps in
-          absurd (omega (arith, pieces-less (lineOf b) {m = i .moment} (omega arith) (last-store-on-line h b (x .stored))))
 
   -- a crash may keep one byte and lose the other: on one line the kept store is the older; on two, the lost store is not
   -- forced by the kept one

@@ -2,7 +2,7 @@
 use mathlib.Core.Path.{_≡_, refl, _∙_}
 use mathlib.Core.Bool.{true}
 use mathlib.Core.Logic.{_≢_}
-use Prim.Native.Nat.{ℕ, zero, suc, _≤_}
+use Prim.Native.Nat.{ℕ, zero, suc, _≤_, _<_}
 use native.Mathlib.Omega.{arith}
 use lib.ListN.{length}
 use Rattle.event.specs.declared.Interval.{Interval}
@@ -22,20 +22,20 @@ if-some zero x f h = absurd (h refl)
 if-some (suc n) x f h = refl
 
 module _ (h : History) where
-  -- the last store is a store that covers the byte
+  -- no store that covers the byte is later than its last store
+  pub last-store-latest : (b s : ℕ) → is (storesByte b) h s ≡ true → s ≤ lastStore h b
+  unfolding lastStore
+  last-store-latest b s t = is-latest (storesByte b) h s t
+
+  -- which is a store that covers the byte
   pub last-store-stores : (b : ℕ) → lastStore h b ≢ 0 → is (storesByte b) h (lastStore h b) ≡ true
   unfolding lastStore
   last-store-stores b e = is-last (storesByte b) h e
 
-  -- it is an event of the list
+  -- and an event of the list
   pub last-store-within : (b : ℕ) → lastStore h b ≤ length h
   unfolding lastStore
   last-store-within b = last-le (is (storesByte b) h) (length h)
-
-  -- and no store that covers the byte is later
-  pub last-store-latest : (b s : ℕ) → is (storesByte b) h s ≡ true → s ≤ lastStore h b
-  unfolding lastStore
-  last-store-latest b s t = is-latest (storesByte b) h s t
 
   -- it has a piece on the byte's line
   pub last-store-on-line : (b : ℕ) → lastStore h b ≢ 0 → is (storesLine (lineOf b)) h (lastStore h b) ≡ true
@@ -57,11 +57,28 @@ module _ (h : History) where
       let eq : fenceAfter h l s ≡ first (is fences h) (backAfter h l s) (length h) = fence-after l s (back-there l s e) in
       rw eq (first-is (is fences h) (backAfter h l s) (length h) (rw eq at e) .passes)
 
-  -- a store followed by a write-back of its line and then a fence, by m, has its closing fence by m
+  -- a store that has its closing fence by m is followed by a write-back of its line and then a fence, by m
   pub record Closes (l s m : ℕ) : Type 0 where
     pub there : fenceAfter h l s ≢ 0
     pub by : fenceAfter h l s ≤ m
 
+  pub closes-forced : {l s m : ℕ} → Closes l s m → Forced h l s m
+  unfolding backAfter
+  closes-forced {l} {s} {m} x =
+      let w = first-is (is (writesBackLine l) h) s (length h) (back-there l s (x .there)) in
+      let e : fenceAfter h l s ≡ first (is fences h) (backAfter h l s) (length h) = fence-after l s (back-there l s (x .there)) in
+      let later : backAfter h l s < fenceAfter h l s = rw e (first-is (is fences h) (backAfter h l s) (length h) (rw e at (x .there)) .after) in
+      record {
+        back = backAfter h l s;
+        fence = fenceAfter h l s;
+        after = w .after;
+        isBack = w .passes;
+        later = later;
+        isFence = closing-fence l s (x .there);
+        by = omega (arith, later, x .by);
+      }
+
+  -- and the other way round
   pub forced-closes : {l s m : ℕ} → Forced h l s m → Closes l s m
   unfolding backAfter
   forced-closes {l} {s} {m} x =
@@ -69,23 +86,6 @@ module _ (h : History) where
       let f = first-earliest (is fences h) (backAfter h l s) (length h) (x .fence) (x .isFence) (omega (arith, w .early, x .later)) (is-number fences h (x .fence) (x .isFence) .within) in
       let e : fenceAfter h l s ≡ first (is fences h) (backAfter h l s) (length h) = fence-after l s (w .there) in
       record { there = rw e (f .there); by = rw e (omega (arith, f .early, x .by)) }
-
-  -- and the other way round
-  pub closes-forced : {l s m : ℕ} → Closes l s m → Forced h l s m
-  unfolding backAfter
-  closes-forced {l} {s} {m} x =
-      let w = first-is (is (writesBackLine l) h) s (length h) (back-there l s (x .there)) in
-      let e : fenceAfter h l s ≡ first (is fences h) (backAfter h l s) (length h) = fence-after l s (back-there l s (x .there)) in
-      let f = first-is (is fences h) (backAfter h l s) (length h) (rw e at (x .there)) in
-      record {
-        back = backAfter h l s;
-        fence = fenceAfter h l s;
-        after = w .after;
-        isBack = w .passes;
-        later = rw e (f .after);
-        isFence = closing-fence l s (x .there);
-        by = x .by;
-      }
 
   -- the interval's three cases
   pub interval-none : (b : ℕ) → lastStore h b ≡ 0 → intervalOf h b ≡ None

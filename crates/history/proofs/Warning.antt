@@ -40,6 +40,15 @@ module _ (lines : ℕ) (h : History) where
   pub is-since : (p : Event → Bool) → Since h p → ltb (outermost h) (last (is p h) (length h)) ≡ true
   is-since p x = lt-ltb (outermost h) _ (omega (arith, x .later, is-latest p h (x .number) (x .passes)))
 
+  pub log-decides : (a : Range) → Decides (logged (ofHistory lines h)) (LoggedByte h a) (a .address) (a .length)
+  log-decides a =
+      record {
+        sound = λ b from to e. record { covered = covering a b from to; logged = since-is (logsByte b) e };
+        complete = λ b y. is-since (logsByte b) (y .logged);
+        from = λ b y. covered a b (y .covered) .from;
+        to = λ b y. covered a b (y .covered) .to;
+      }
+
   pub store-decides : (a : Range) → Decides (unlogged (ofHistory lines h)) (UnloggedByte h a) (a .address) (a .length)
   store-decides a =
       record {
@@ -50,15 +59,6 @@ module _ (lines : ℕ) (h : History) where
               unlogged = λ s. contradiction (is-since (logsByte b) s) (not-true (logged (ofHistory lines h) b) (and-right (not (eqb (depth h) 0)) (not (logged (ofHistory lines h) b)) e));
             };
         complete = λ b y. both (zero-not (depth h) (y .inside)) (not-of (fails _ (λ e. y .unlogged (since-is (logsByte b) e))));
-        from = λ b y. covered a b (y .covered) .from;
-        to = λ b y. covered a b (y .covered) .to;
-      }
-
-  pub log-decides : (a : Range) → Decides (logged (ofHistory lines h)) (LoggedByte h a) (a .address) (a .length)
-  log-decides a =
-      record {
-        sound = λ b from to e. record { covered = covering a b from to; logged = since-is (logsByte b) e };
-        complete = λ b y. is-since (logsByte b) (y .logged);
         from = λ b y. covered a b (y .covered) .from;
         to = λ b y. covered a b (y .covered) .to;
       }

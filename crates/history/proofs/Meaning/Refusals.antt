@@ -18,7 +18,7 @@ use Rattle.event.proofs.Bools.{contradiction, and-left, and-right, both, or-cas
 use Rattle.history.specs.History.{History, begins, logs, ends}
 use Rattle.history.specs.Transaction.{depth}
 use Rattle.history.specs.View.{ofHistory}
-use Rattle.history.specs.Refused.{limitsBy, limitNumbers, First, NoneBroken, asksOpen}
+use Rattle.history.specs.Refused.{mostEvents, mostDepth, limitsBy, limitNumbers, First, NoneBroken, asksOpen}
 use Rattle.history.specs.Given.{windowOf, RefusedBy, Accepted}
 
 -- the window is the one asked for, or one line where that is refused
@@ -37,7 +37,7 @@ pub data Applies (lines : ℕ) (h : History) (e : Event) : ℕ → Type 0 where
   noTransaction : (kindOf e ≡ 5) ⊎ (kindOf e ≡ 6) → depth h ≡ 0 → Applies lines h e 11
   tooDeep : kindOf e ≡ 4 → 8 ≤ depth h → Applies lines h e 12
 
-any-range : (p : Range → Bool) (rs : List Range) → anyRange p rs ≡ true → (a : Range) × List·Memᴰ a rs × (p a ≡ true)
+pub any-range : (p : Range → Bool) (rs : List Range) → anyRange p rs ≡ true → (a : Range) × List·Memᴰ a rs × (p a ≡ true)
 any-range p [] e = absurd (contradiction e refl)
 any-range p (r ∷ rs) e = go (or-cases (p r) (anyRange p rs) e) (any-range p rs)
   where
@@ -49,12 +49,12 @@ range-any : (p : Range → Bool) {a : Range} {rs : List Range} → List·Memᴰ 
 range-any p (List·Memᴰ·head {xs = xs} e) k = or-left (anyRange p xs) (rw e at k)
 range-any p (List·Memᴰ·tail {x = x} m) k = or-right (p x) (range-any p m k)
 
-log-or-end : (e : Event) → asksOpen e ≡ true → (kindOf e ≡ 5) ⊎ (kindOf e ≡ 6)
-log-or-end e t = ⊎-elim (λ k. inl (eqb-true (kindOf e) 5 k)) (λ k. inr (eqb-true (kindOf e) 6 k)) (or-cases (logs e) (ends e) t)
-
 asks-open : (e : Event) → (kindOf e ≡ 5) ⊎ (kindOf e ≡ 6) → asksOpen e ≡ true
 asks-open e (inl k) = rw k
 asks-open e (inr k) = rw k
+
+log-or-end : (e : Event) → asksOpen e ≡ true → (kindOf e ≡ 5) ⊎ (kindOf e ≡ 6)
+log-or-end e t = ⊎-elim (λ k. inl (eqb-true (kindOf e) 5 k)) (λ k. inr (eqb-true (kindOf e) 6 k)) (or-cases (logs e) (ends e) t)
 
 -- the numbers are tried in the order 8, 9, 10, 11, 12
 pub limits-in-order : (lines : ℕ) (h : History) (e : Event) → limitNumbers (limitsBy (ofHistory lines h) e) ≡ 8 ∷ 9 ∷ 10 ∷ 11 ∷ 12 ∷ []
@@ -68,16 +68,17 @@ refused-applies lines h r (First.here t) =
 refused-applies lines h r (First.later a (First.here t)) =
     let a = any-range (isPast lines) (rangesOf (r .event)) t in
     Applies.pastWindow (a .1) (ltb-true _ _ (a .2))
-refused-applies lines h r (First.later a (First.later b (First.here t))) = Applies.exhausted (leb-true _ _ t)
+refused-applies lines h r (First.later a (First.later b (First.here t))) = Applies.exhausted (omega (arith, leb-true mostEvents (length h) t))
 refused-applies lines h r (First.later a (First.later b (First.later c (First.here t)))) =
     Applies.noTransaction (log-or-end (r .event) (and-left (asksOpen (r .event)) (eqb (depth h) 0) t)) (eqb-true _ _ (and-right (asksOpen (r .event)) (eqb (depth h) 0) t))
 refused-applies lines h r (First.later a (First.later b (First.later c (First.later d (First.here t))))) =
-    Applies.tooDeep (eqb-true (kindOf (r .event)) 4 (and-left (begins (r .event)) (leb 8 (depth h)) t)) (leb-true _ _ (and-right (begins (r .event)) (leb 8 (depth h)) t))
+    let deep = leb-true mostDepth (depth h) (and-right (begins (r .event)) (leb mostDepth (depth h)) t) in
+    Applies.tooDeep (eqb-true (kindOf (r .event)) 4 (and-left (begins (r .event)) (leb mostDepth (depth h)) t)) (omega (arith, deep))
 
 -- and none applies to one that is accepted
 pub accepted-none : (lines : ℕ) (h : History) (r : Record) {n : ℕ} → Accepted lines h r → Applies lines h (r .event) n → ⊥
 accepted-none lines h r (NoneBroken.cons f k) (Applies.emptyRange m e) = contradiction (range-any isEmpty m (eq-eqb _ 0 e)) f
 accepted-none lines h r (NoneBroken.cons a (NoneBroken.cons f k)) (Applies.pastWindow m e) = contradiction (range-any (isPast lines) m (lt-ltb _ _ e)) f
-accepted-none lines h r (NoneBroken.cons a (NoneBroken.cons b (NoneBroken.cons f k))) (Applies.exhausted e) = contradiction (le-leb _ _ e) f
+accepted-none lines h r (NoneBroken.cons a (NoneBroken.cons b (NoneBroken.cons f k))) (Applies.exhausted e) = contradiction (le-leb mostEvents (length h) (omega (arith, e))) f
 accepted-none lines h r (NoneBroken.cons a (NoneBroken.cons b (NoneBroken.cons c (NoneBroken.cons f k)))) (Applies.noTransaction t e) = contradiction (both (asks-open (r .event) t) (eq-eqb _ 0 e)) f
-accepted-none lines h r (NoneBroken.cons a (NoneBroken.cons b (NoneBroken.cons c (NoneBroken.cons d (NoneBroken.cons f k))))) (Applies.tooDeep t e) = contradiction (both (eq-eqb (kindOf (r .event)) 4 t) (le-leb _ _ e)) f
+accepted-none lines h r (NoneBroken.cons a (NoneBroken.cons b (NoneBroken.cons c (NoneBroken.cons d (NoneBroken.cons f k))))) (Applies.tooDeep t e) = contradiction (both (eq-eqb (kindOf (r .event)) 4 t) (le-leb mostDepth (depth h) (omega (arith, e)))) f

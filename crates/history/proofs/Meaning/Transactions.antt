@@ -9,6 +9,7 @@ use lib.Dec.{eqb, leb}
 use lib.ListN.{length, drop}
 use borrow.Author.Tests.{eqb-true, eqb-false, eq-eqb, ne-eqb, leb-false}
 use Rattle.event.specs.declared.Event.{Event}
+use Rattle.event.specs.declared.Event.the-variants.{Begin, End}
 use Rattle.event.specs.declared.Record.{Record}
 use Rattle.event.specs.Numbers.{kindOf}
 use Rattle.event.proofs.Bools.{both}
@@ -18,6 +19,18 @@ use Rattle.history.specs.Transaction.{depth, depthAfter, outermost}
 use Rattle.history.specs.Refused.{NoneBroken, asksOpen}
 use Rattle.history.proofs.History.{count-newest}
 use Rattle.history.proofs.Meaning.Accepted.{Taken}
+
+-- worked: an inner begin and an inner end leave the outermost begin as it was, an end closes one transaction, and the next outermost
+-- begin is another
+abbrev begin : Record
+begin = record { event = Begin; site = 0 }
+
+abbrev end : Record
+end = record { event = End; site = 0 }
+
+pub worked-begins : (outermost (begin ∷ begin ∷ []) ≡ 1) × (outermost (end ∷ begin ∷ begin ∷ []) ≡ 1) × (depth (end ∷ begin ∷ begin ∷ []) ≡ 1) × (outermost (begin ∷ end ∷ begin ∷ []) ≡ 3)
+unfolding depth outermost
+worked-begins = (refl, refl, refl, refl)
 
 -- an accepted list has at most 8 transactions open
 depth-next : (e : Event) (d : ℕ) → d ≤ 8 → begins e && leb 8 d ≡ false → depthAfter e d ≤ 8
