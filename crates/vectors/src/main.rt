@@ -4,18 +4,26 @@
 use libc::STDIN_FILENO;
 use libc::STDOUT_FILENO;
 ghost use mathlib.Core.Path.{_≡_};
+ghost use mathlib.Core.Bool.{cond};
+ghost use lib.Dec.{ltb};
 ghost use lib.ListN.{length};
+ghost use Rattle.codec.specs.Codec.{u32At};
 ghost use Rattle.io.specs.Counts.{Counts};
 
-// Reads a part, whose length is at this place of the header, to the start of the buffer, and answers how many bytes came; none where
-// there is no room for them.
+// The length of a part, which is at this place of the header; 0 where there is no room for so many bytes.
+fn part_length(header: &[u8], at: u8, room: usize) -> usize
+    ensures { λ r. ⌜ r ≡ cond (ltb room (u32At (now (header .entry)) at)) 0 (u32At (now (header .entry)) at) ⌝ }
+{
+    let len = codec::u32_at(header, at) as usize;
+    if room < len { 0 } else { len }
+}
+
+// Reads a part to the start of the buffer. Standard input decides how many bytes come; they are counted, and no more are than the
+// buffer has.
 fn read_part(header: &[u8], at: u8, buf: &mut [u8]) -> usize
     ensures { λ r. ⌜ Counts r (now (buf .exit)) ⌝ }
 {
-    let len = codec::u32_at(header, at) as usize;
-    if buf.len() < len {
-        return 0;
-    }
+    let len = part_length(header, at, buf.len());
     io::read_full(STDIN_FILENO, &mut buf[..len])
 }
 
@@ -29,7 +37,8 @@ fn print_differs(name: &[u8], same: bool) {
     io::write_all(STDOUT_FILENO, b"\n");
 }
 
-// Reads the trace, findings area and text of an entry, whose lengths the header gives, into these buffers, and runs the trace.
+// Reads the trace, findings area and text of an entry, whose lengths the header gives, into these buffers, and runs the trace. Standard
+// input decides the answer, and nothing is promised of it.
 fn run_parts(
     header: &[u8],
     trace: &mut [u8],
@@ -54,7 +63,7 @@ fn run_parts(
     )
 }
 
-// Reads an entry, its name first, and runs it.
+// Reads an entry, its name first, and runs it. Nothing is promised of its answer either.
 fn entry(header: &[u8], answers: &mut [u32], kinds: &mut [u32]) -> bool {
     let mut name = [0u8; 64];
     let n = read_part(header, 0, &mut name);
