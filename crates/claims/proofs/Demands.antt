@@ -32,7 +32,6 @@ use Rattle.engine.specs.Call.{emptyRun, freshOf, askOf, closeOf}
 use Rattle.engine.specs.Reply.{windowReply, givenReply, askedReply, closingReply}
 use Rattle.trailer.specs.Trailer.{trailerOf}
 use Rattle.trace.specs.Records.{recordPart, linesIn}
-use Rattle.verdict.specs.Verdict.{traceLimits}
 use Rattle.claims.specs.After.{runFrom, takenFrom, repliesFrom}
 use Rattle.claims.specs.Demand1.{Demand1}
 use Rattle.claims.specs.Demand2.{Demand2}
@@ -92,12 +91,12 @@ starred = (λ i. map (λ (run : SmallRun). map answerReply (same 2 (recorded (ru
 pub demand1 : Demand1
 demand1 =
     record {
+      decided = limited;
       windowRefused = window-refused;
       windowTaken = window-taken;
       eventNumbers = λ lines h e. refl;
       eventRefused = λ asked given r k. (ap givenReply (refused asked given r k), ap (λ (g : Given). g .run) (refused asked given r k));
       eventTaken = λ asked given r k. (findingBy (ofHistory (windowOf asked) (takenFrom asked given)) (r .event), ap answerReply (taken asked given r k));
-      eventDecided = decided;
       byteRefused = λ asked given byte k. ap askedReply (byte-refused asked given byte k);
       byteTaken = λ asked given byte number at k e. not-refused (ap askedReply (byte-known asked given byte k)) e;
       closingRefused = λ asked given d. ap closingReply (closing-refused asked given d);
@@ -108,7 +107,6 @@ demand1 =
       trailerTaken = trailer-taken;
       traceNumbers = λ trace area. refl;
       traceRefused = trace-refused;
-      traceLimited = λ trace area. limited (traceLimits trace area);
       recordNumbers = λ lines h s. refl;
       recordRefused = record-refused;
       recordsDecided = λ trace. records-decided (linesIn trace) 1 [] (trailerOf trace .count) (recordPart (trailerOf trace .offset) trace);

@@ -16,7 +16,7 @@ use Rattle.records.specs.Record.{recordOf, parsed, recordValues, readReply}
 use Rattle.history.specs.History.{History}
 use Rattle.history.specs.Transaction.{depth}
 use Rattle.history.specs.View.{ofHistory}
-use Rattle.history.specs.Refused.{limitsBy, limitNumbers, First, NoneBroken}
+use Rattle.history.specs.Refused.{Limit, limitsBy, limitNumbers, First, NoneBroken}
 use Rattle.history.specs.Given.{windowOf, RefusedBy, Accepted}
 use Rattle.events.specs.Give.{giveOf}
 use Rattle.engine.specs.Call.{emptyRun, freshOf, askOf, closeOf}
@@ -27,6 +27,8 @@ use Rattle.claims.specs.After.{runFrom, takenFrom}
 use Rattle.claims.specs.Traces.{readLimits, recordLimits, StopsAt, TakesAll, Rejected}
 
 pub record Demand1 : Type 0 where
+  -- of any limits in their order, one applies first or none applies
+  pub decided : (limits : List Limit) → ((x : Refusal) × First limits x) ⊎ NoneBroken limits
   -- a fresh window. 4: lines outside 1 to 64; a run of one line is handed over
   pub windowRefused : (asked : ℕ) → (asked ≡ 0) ⊎ (mostLines < asked) →
       (windowReply (freshOf asked) ≡ Reply.refused 4 0) × (freshOf asked .run ≡ emptyRun 1)
@@ -38,8 +40,6 @@ pub record Demand1 : Type 0 where
       (givenReply (giveOf (runFrom asked given) r) ≡ Reply.refused (numberOf x) 0) × (giveOf (runFrom asked given) r .run ≡ runFrom asked given)
   pub eventTaken : (asked : ℕ) (given : List Record) (r : Record) → Accepted (windowOf asked) (takenFrom asked given) r →
       (f : Finding) × (givenReply (giveOf (runFrom asked given) r) ≡ Reply.values (findingValues f))
-  pub eventDecided : (asked : ℕ) (given : List Record) (r : Record) →
-      ((x : Refusal) × RefusedBy (windowOf asked) (takenFrom asked given) r x) ⊎ Accepted (windowOf asked) (takenFrom asked given) r
   -- a byte asked. 9: it is past the window
   pub byteRefused : (asked : ℕ) (given : List Record) (byte : ℕ) → windowBytes (windowOf asked) ≤ byte →
       askedReply (askOf (runFrom asked given) byte) ≡ Reply.refused 9 0
@@ -60,7 +60,6 @@ pub record Demand1 : Type 0 where
   -- a trace: the first of 1, 2, 3, 4, 5, 14 that applies, at 0
   pub traceNumbers : (trace area : List ℕ) → limitNumbers (traceLimits trace area) ≡ 1 ∷ 2 ∷ 3 ∷ 4 ∷ 5 ∷ 14 ∷ []
   pub traceRefused : (trace area : List ℕ) {x : Refusal} → First (traceLimits trace area) x → Rejected trace area (numberOf x) 0
-  pub traceLimited : (trace area : List ℕ) → ((x : Refusal) × First (traceLimits trace area) x) ⊎ NoneBroken (traceLimits trace area)
   -- else the first record to which one of 6, 7, 8, 9, 10, 11, 12 applies, by the first that does, at the record's number from 1
   pub recordNumbers : (lines : ℕ) (h : History) (s : List ℕ) → limitNumbers (recordLimits lines h s) ≡ 6 ∷ 7 ∷ 8 ∷ 9 ∷ 10 ∷ 11 ∷ 12 ∷ []
   pub recordRefused : (trace area : List ℕ) {x : Refusal} {n : ℕ} → NoneBroken (traceLimits trace area) → StopsAt trace x n →
