@@ -38,6 +38,7 @@ use Rattle.claims.specs.Demand2.{Demand2}
 use Rattle.claims.specs.Demand3.{Demand3}
 use Rattle.claims.proofs.Paper.{persist-interval}
 use Rattle.claims.proofs.Answers.{limited, tracked, viewed, same, inside, decided, refused, taken, closing-totals, not-refused}
+use Rattle.claims.proofs.Calls.{called-after}
 use Rattle.claims.proofs.Records.{read-refused, read-taken}
 use Rattle.claims.proofs.Traces.{records-decided, trailer-refused, trailer-taken, trace-refused, record-refused, trace-open, trace-taken}
 use Rattle.claims.proofs.Singly.{given-singly}
@@ -136,6 +137,7 @@ demand3 =
       ends = λ asked given r k e d s. holds-exactly (taken asked given r k) (end-holds (windowOf asked) (takenFrom asked given) (inside asked given) r e d s);
       endsLost = λ asked given r k e d s. else-end-lost (taken asked given r k) (claim-of (windowOf asked) (takenFrom asked given) (inside asked given) r e) d s;
       totals = λ asked given d. ap closingReply (closing-totals asked given d);
+      between = λ asked calls. called-after (freshOf asked .run) calls;
       traces = given-singly;
       starred = starred;
     }

@@ -4,6 +4,7 @@ pub mod Rules  -- what the rules of paper 000 do to each part of the status
 pub mod Next  -- what one more event does to the interval of a byte and to its write-back
 pub mod Paper  -- the rules of paper 000 give the same intervals
 pub mod Answers  -- what the run answers after events given from a fresh window
+pub mod Calls  -- bytes asked and closings change nothing
 pub mod Records  -- the limits on a record, and what reading and checking it say
 pub mod Traces  -- which traces are refused, by which number and at which record
 pub mod Area  -- records that are all taken, and the bytes of their findings

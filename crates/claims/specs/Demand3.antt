@@ -18,10 +18,11 @@ use Rattle.history.specs.Transaction.{depth, Since}
 use Rattle.history.specs.Given.{windowOf, Accepted, ClaimRun, reported}
 use Rattle.history.specs.Small.{SmallRun, smallRuns, recorded, foundAll}
 use Rattle.events.specs.Give.{giveOf}
-use Rattle.engine.specs.Call.{closeOf}
+use Rattle.engine.specs.Call.{freshOf, closeOf}
 use Rattle.engine.specs.Reply.{givenReply, closingReply}
 use Rattle.verdict.specs.Verdict.{verdictOf, verdictReply}
 use Rattle.claims.specs.After.{runFrom, takenFrom, answersFrom, repliesFrom}
+use Rattle.claims.specs.Calls.{Call, runCalled, eventsAmong}
 use Rattle.claims.specs.Failure.{holds, LostAt, OutOfOrderAt}
 use Rattle.claims.specs.Traces.{GivenSingly}
 
@@ -65,6 +66,8 @@ pub record Demand3 : Type 0 where
   -- the totals at closing: the accepted events, the fences among them, and the findings other than none
   pub totals : (asked : ℕ) (given : List Record) → let h = takenFrom asked given in depth h ≡ 0 →
       closingReply (closeOf (runFrom asked given)) ≡ Reply.values (length h ∷ epochAt h (length h) ∷ reported (answersFrom asked given) ∷ [])
+  -- bytes asked and closings in between change nothing: the run after any calls is the run after the events among them
+  pub between : (asked : ℕ) (calls : List Call) → runCalled (freshOf asked .run) calls ≡ runFrom asked (eventsAmong calls)
   -- the findings area of an accepted trace holds, for each record in order, the finding that its event gets when the trace's events
   -- are given singly from the fresh window that the trace is judged from
   pub traces : (trace area totals : List ℕ) → verdictReply (verdictOf trace area) ≡ Reply.values totals → GivenSingly trace area totals
