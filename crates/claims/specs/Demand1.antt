@@ -35,9 +35,11 @@ pub record Demand1 : Type 0 where
   pub windowTaken : (asked : ℕ) → 1 ≤ asked → asked ≤ mostLines →
       (windowReply (freshOf asked) ≡ Reply.values []) × (freshOf asked .run ≡ emptyRun asked)
   -- an event given singly: the first of 8, 9, 10, 11, 12 that applies after the accepted events; the run is as it was
-  pub eventNumbers : (lines : ℕ) (h : History) (e : Event) → limitNumbers (limitsBy (ofHistory lines h) e) ≡ 8 ∷ 9 ∷ 10 ∷ 11 ∷ 12 ∷ []
+  pub eventNumbers : (lines : ℕ) (h : History) (e : Event) →
+      limitNumbers (limitsBy (ofHistory lines h) e) ≡ 8 ∷ 9 ∷ 10 ∷ 11 ∷ 12 ∷ []
   pub eventRefused : (asked : ℕ) (given : List Record) (r : Record) {x : Refusal} → RefusedBy (windowOf asked) (takenFrom asked given) r x →
-      (givenReply (giveOf (runFrom asked given) r) ≡ Reply.refused (numberOf x) 0) × (giveOf (runFrom asked given) r .run ≡ runFrom asked given)
+      (givenReply (giveOf (runFrom asked given) r) ≡ Reply.refused (numberOf x) 0) ×
+      (giveOf (runFrom asked given) r .run ≡ runFrom asked given)
   pub eventTaken : (asked : ℕ) (given : List Record) (r : Record) → Accepted (windowOf asked) (takenFrom asked given) r →
       (f : Finding) × (givenReply (giveOf (runFrom asked given) r) ≡ Reply.values (findingValues f))
   -- a byte asked. 9: it is past the window
@@ -61,7 +63,8 @@ pub record Demand1 : Type 0 where
   pub traceNumbers : (trace area : List ℕ) → limitNumbers (traceLimits trace area) ≡ 1 ∷ 2 ∷ 3 ∷ 4 ∷ 5 ∷ 14 ∷ []
   pub traceRefused : (trace area : List ℕ) {x : Refusal} → First (traceLimits trace area) x → Rejected trace area (numberOf x) 0
   -- else the first record to which one of 6, 7, 8, 9, 10, 11, 12 applies, by the first that does, at the record's number from 1
-  pub recordNumbers : (lines : ℕ) (h : History) (s : List ℕ) → limitNumbers (recordLimits lines h s) ≡ 6 ∷ 7 ∷ 8 ∷ 9 ∷ 10 ∷ 11 ∷ 12 ∷ []
+  pub recordNumbers : (lines : ℕ) (h : History) (s : List ℕ) →
+      limitNumbers (recordLimits lines h s) ≡ 6 ∷ 7 ∷ 8 ∷ 9 ∷ 10 ∷ 11 ∷ 12 ∷ []
   pub recordRefused : (trace area : List ℕ) {x : Refusal} {n : ℕ} → NoneBroken (traceLimits trace area) → StopsAt trace x n →
       Rejected trace area (numberOf x) n
   pub recordsDecided : (trace : List ℕ) → ((x : Refusal) × (n : ℕ) × StopsAt trace x n) ⊎ ((h : History) × TakesAll trace h)
@@ -69,5 +72,5 @@ pub record Demand1 : Type 0 where
   pub traceOpen : (trace area : List ℕ) {h : History} → NoneBroken (traceLimits trace area) → TakesAll trace h → depth h ≢ 0 →
       Rejected trace area 13 0
   -- else by no number
-  pub traceTaken : (trace area : List ℕ) {h : History} (number at : ℕ) → NoneBroken (traceLimits trace area) → TakesAll trace h → depth h ≡ 0 →
-      verdictReply (verdictOf trace area) ≢ Reply.refused number at
+  pub traceTaken : (trace area : List ℕ) {h : History} (number at : ℕ) → NoneBroken (traceLimits trace area) → TakesAll trace h →
+      depth h ≡ 0 → verdictReply (verdictOf trace area) ≢ Reply.refused number at

@@ -26,7 +26,8 @@ pub record Demand2 : Type 0 where
   pub intervals : (asked : ℕ) (given : List Record) (byte : ℕ) → byte < windowBytes (windowOf asked) →
       askedReply (askOf (runFrom asked given) byte) ≡ Reply.values (intervalValues (intervalOf (takenFrom asked given) byte))
   -- the finding of every event, as it is answered
-  pub findings : (asked : ℕ) (given : List Record) (r : Record) (answer : List ℕ) → givenReply (giveOf (runFrom asked given) r) ≡ Reply.values answer →
+  pub findings : (asked : ℕ) (given : List Record) (r : Record) (answer : List ℕ) →
+      givenReply (giveOf (runFrom asked given) r) ≡ Reply.values answer →
       (f : Finding) × (answer ≡ findingValues f) × Claim (takenFrom asked given) r f
   -- the kinds of finding with their fields, as document 01 numbers them: kind, lost, kept, moment, store
   pub kinds : (lost kept moment store : ℕ) →
