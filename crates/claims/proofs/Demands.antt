@@ -11,7 +11,8 @@ use Rattle.event.specs.declared.Refusal.{Refusal}
 use Rattle.event.specs.declared.Refusal.the-variants.{PastWindow, TransactionOpen}
 use Rattle.event.specs.Reply.{Reply, findingValues, answerReply}
 use Rattle.window.specs.Window.{mostLines, windowBytes}
-use Rattle.records.specs.Record.{readReply}
+use Rattle.records.specs.Record.{recordOf, readReply}
+use Rattle.records.proofs.RoundTrip.{read-values}
 use Rattle.history.specs.Interval.{intervalOf}
 use Rattle.history.specs.View.{View, ofHistory}
 use Rattle.history.specs.Found.{findingBy}
@@ -103,7 +104,7 @@ demand1 =
       closingRefused = λ asked given d. ap closingReply (closing-refused asked given d);
       closingTaken = λ asked given number at d e. not-refused (ap closingReply (closing-totals asked given d)) e;
       readRefused = read-refused;
-      readTaken = λ s k. ap readReply (read-taken s k);
+      readTaken = λ s k. ap readReply (read-taken s k) ∙ ap Reply.values (read-values s (recordOf s) (read-taken s k));
       trailerRefused = trailer-refused;
       trailerTaken = trailer-taken;
       traceNumbers = λ trace area. refl;

@@ -5,6 +5,7 @@ use mathlib.Core.Path.{_≡_}
 use mathlib.Core.Logic.{_≢_, _⊎_}
 use mathlib.Core.List.{List, [], _∷_}
 use Prim.Native.Nat.{ℕ, _≤_, _<_}
+use lib.ListN.{getD}
 use Rattle.event.specs.declared.Event.{Event}
 use Rattle.event.specs.declared.Record.{Record}
 use Rattle.event.specs.declared.Finding.{Finding}
@@ -12,7 +13,8 @@ use Rattle.event.specs.declared.Refusal.{Refusal}
 use Rattle.event.specs.Numbers.{numberOf}
 use Rattle.event.specs.Reply.{Reply, findingValues}
 use Rattle.window.specs.Window.{mostLines, windowBytes}
-use Rattle.records.specs.Record.{recordOf, parsed, recordValues, readReply}
+use Rattle.codec.specs.Codec.{u16At}
+use Rattle.records.specs.Record.{parsed, readReply}
 use Rattle.history.specs.History.{History}
 use Rattle.history.specs.Transaction.{depth}
 use Rattle.history.specs.View.{ofHistory}
@@ -52,10 +54,12 @@ pub record Demand1 : Type 0 where
       closingReply (closeOf (runFrom asked given)) ≡ Reply.refused 13 0
   pub closingTaken : (asked : ℕ) (given : List Record) (number at : ℕ) → depth (takenFrom asked given) ≡ 0 →
       closingReply (closeOf (runFrom asked given)) ≢ Reply.refused number at
-  -- a record read by itself: the first of 6 and 7 that applies, or its fields
+  -- a record read by itself: the first of 6 and 7 that applies, or kind, A address, A length, B address, B length and site as its bytes
+  -- have them
   pub readRefused : (s : List ℕ) {x : Refusal} → First (readLimits s) x → readReply (parsed s) ≡ Reply.refused (numberOf x) 0
-  pub readTaken : (s : List ℕ) → NoneBroken (readLimits s) → readReply (parsed s) ≡ Reply.values (recordValues (recordOf s))
-  -- a trailer read: the first of 1, 2, 3, 4, 5 that applies, or its fields
+  pub readTaken : (s : List ℕ) → NoneBroken (readLimits s) →
+      readReply (parsed s) ≡ Reply.values (getD s 0 0 ∷ u16At s 2 ∷ u16At s 4 ∷ u16At s 6 ∷ u16At s 8 ∷ u16At s 10 ∷ [])
+  -- a trailer read: the first of 1, 2, 3, 4, 5 that applies, or offset, count and lines
   pub trailerRefused : (s : List ℕ) {x : Refusal} → First (fileLimits s) x → openedReply (openedOf s) ≡ Reply.refused (numberOf x) 0
   pub trailerTaken : (s : List ℕ) → NoneBroken (fileLimits s) →
       openedReply (openedOf s) ≡ Reply.values (trailerOf s .offset ∷ trailerOf s .count ∷ trailerOf s .lines ∷ [])

@@ -17,7 +17,7 @@ use Rattle.event.specs.declared.Refusal.the-variants.{UnknownKind, FieldSet}
 use Rattle.event.specs.Numbers.{kindOf}
 use Rattle.window.specs.Window.{rangesOf}
 use Rattle.codec.specs.Codec.{u16At, u16Bytes}
-use Rattle.records.specs.Record.{rangeAt, isKind, usesA, usesB, isZero, isClear, eventOf, recordOf, parsed, padded, zeroRange, rangeBytes, recordBytes}
+use Rattle.records.specs.Record.{rangeAt, isKind, usesA, usesB, isZero, isClear, eventOf, recordOf, parsed, padded, zeroRange, rangeBytes, recordBytes, rangeValues, recordValues}
 use Rattle.event.proofs.Bools.{contradiction, and-left, and-right}
 use Rattle.codec.proofs.Meaning.{u16-round-trip, u16-bytes}
 use Rattle.records.proofs.Meaning.{kind-of-event}
@@ -77,14 +77,23 @@ made (suc (suc (suc (suc (suc (suc (suc zero))))))) a b k p q = record { first =
 made (suc (suc (suc (suc (suc (suc (suc (suc zero)))))))) a b k p q = record { first = refl; second = refl }
 made (suc (suc (suc (suc (suc (suc (suc (suc (suc n))))))))) a b k p q = absurd (omega (arith, most-eight (suc (suc (suc (suc (suc (suc (suc (suc (suc n))))))))) k))
 
--- the layout of a record
-abbrev bytes : ℕ → ℕ → Range → Range → ℕ → List ℕ
-bytes kind clear a b site = kind ∷ clear ∷ rangeBytes a ++ rangeBytes b ++ u16Bytes site
+-- what the bytes of a record that is read hold: its kind, a zero byte, its ranges, and its site
+pub record Held (s : List ℕ) (e : Event) (site : ℕ) : Type 0 where
+  pub kind : kindOf e ≡ getD s 0 0
+  pub clear : 0 ≡ getD s 1 0
+  pub first : getD (rangesOf e) 0 zeroRange ≡ rangeAt s 2
+  pub second : getD (rangesOf e) 1 zeroRange ≡ rangeAt s 6
+  pub from : site ≡ u16At s 10
 
--- the first 12 bytes of what is accepted are the bytes of the record that is read
-pub accepted-bytes : (s : List ℕ) (e : Event) (site : ℕ) → ((i : ℕ) → getD s i 0 < 256) → parsed s ≡ Read (record { event = e; site = site }) →
-    recordBytes e site ≡ padded 12 s
-accepted-bytes s e site small k = (λ i. bytes (kind i) (clear i) (first i) (second i) (x .from i)) ∙ (λ i. laid i)
+pub bytes-hold : (s : List ℕ) (e : Event) (site : ℕ) → parsed s ≡ Read (record { event = e; site = site }) → Held s e site
+bytes-hold s e site k =
+    record {
+      kind = ap kindOf (x .event) ∙ kind-of-event (getD s 0 0) (rangeAt s 2) (rangeAt s 6) (x .known);
+      clear = sym (eqb-true (getD s 1 0) 0 (and-left (eqb (getD s 1 0) 0) (usesA (getD s 0 0) || isZero (rangeAt s 2)) zeros));
+      first = ap (λ (d : Event). getD (rangesOf d) 0 zeroRange) (x .event) ∙ m .first;
+      second = ap (λ (d : Event). getD (rangesOf d) 1 zeroRange) (x .event) ∙ m .second;
+      from = x .from;
+    }
   where
     x : ReadFrom s e site
     x = read-from s e site k
@@ -98,20 +107,27 @@ accepted-bytes s e site small k = (λ i. bytes (kind i) (clear i) (first i) (sec
         (and-right (eqb (getD s 1 0) 0) (usesA (getD s 0 0) || isZero (rangeAt s 2)) zeros)
         (and-right (eqb (getD s 1 0) 0 && (usesA (getD s 0 0) || isZero (rangeAt s 2))) (usesB (getD s 0 0) || isZero (rangeAt s 6)) (x .clear))
 
-    kind : kindOf e ≡ getD s 0 0
-    kind = ap kindOf (x .event) ∙ kind-of-event (getD s 0 0) (rangeAt s 2) (rangeAt s 6) (x .known)
+-- the layout of a record
+abbrev bytes : ℕ → ℕ → Range → Range → ℕ → List ℕ
+bytes kind clear a b site = kind ∷ clear ∷ rangeBytes a ++ rangeBytes b ++ u16Bytes site
 
-    clear : 0 ≡ getD s 1 0
-    clear = sym (eqb-true (getD s 1 0) 0 (and-left (eqb (getD s 1 0) 0) (usesA (getD s 0 0) || isZero (rangeAt s 2)) zeros))
-
-    first : getD (rangesOf e) 0 zeroRange ≡ rangeAt s 2
-    first = ap (λ (d : Event). getD (rangesOf d) 0 zeroRange) (x .event) ∙ m .first
-
-    second : getD (rangesOf e) 1 zeroRange ≡ rangeAt s 6
-    second = ap (λ (d : Event). getD (rangesOf d) 1 zeroRange) (x .event) ∙ m .second
+-- the first 12 bytes of what is accepted are the bytes of the record that is read
+pub accepted-bytes : (s : List ℕ) (e : Event) (site : ℕ) → ((i : ℕ) → getD s i 0 < 256) → parsed s ≡ Read (record { event = e; site = site }) →
+    recordBytes e site ≡ padded 12 s
+accepted-bytes s e site small k = (λ i. bytes (x .kind i) (x .clear i) (x .first i) (x .second i) (x .from i)) ∙ (λ i. laid i)
+  where
+    x : Held s e site
+    x = bytes-hold s e site k
 
     pair : (i : ℕ) → u16Bytes (u16At s i) ≡ getD s i 0 ∷ getD s (i + 1) 0 ∷ []
     pair i = u16-bytes (getD s i 0) (getD s (i + 1) 0) (small i)
 
     laid : bytes (getD s 0 0) (getD s 1 0) (rangeAt s 2) (rangeAt s 6) (u16At s 10) ≡ padded 12 s
     laid i = getD s 0 0 ∷ getD s 1 0 ∷ (pair 2 i ++ pair 4 i) ++ (pair 6 i ++ pair 8 i) ++ pair 10 i
+
+-- and its values are the numbers in its bytes
+pub read-values : (s : List ℕ) (r : Record) → parsed s ≡ Read r →
+    recordValues r ≡ getD s 0 0 ∷ u16At s 2 ∷ u16At s 4 ∷ u16At s 6 ∷ u16At s 8 ∷ u16At s 10 ∷ []
+read-values s r k =
+    let x = bytes-hold s (r .event) (r .site) k in
+    λ i. x .kind i ∷ rangeValues (x .first i) ++ rangeValues (x .second i) ++ x .from i ∷ []
