@@ -21,23 +21,11 @@ use Rattle.history.specs.Given.{Accepted}
 use Rattle.history.proofs.Given.{first-broken, none-broken}
 use Rattle.trace.specs.declared.TraceCheck.{TraceCheck}
 use Rattle.trace.specs.Records.{recordsOf}
-use Rattle.trace.specs.Checked.{unlessBroken, checkFrom}
-use Rattle.claims.specs.Traces.{readLimits, recordLimits, Takes}
+use Rattle.trace.specs.Checked.{readLimits, unlessBroken, checkFrom}
+use Rattle.trace.proofs.ReadLimits.{readBy, read-by-limits}
+use Rattle.claims.specs.Traces.{recordLimits, Takes}
 
--- a record read by itself, by what the check of 6 and 7 says
-abbrev readBy : Check → Record → Parsed
-readBy Passed r = Read r
-readBy (Breaks x) r = Unread x
-
-read-by-limits : (s : List ℕ) → parsed s ≡ readBy (firstBroken (readLimits s)) (recordOf s)
-read-by-limits s = go (badKind s) (fieldSet s)
-  where
-    go : (a b : Bool) → cond a (Unread UnknownKind) (cond b (Unread FieldSet) (Read (recordOf s))) ≡
-        readBy (cond a (Breaks UnknownKind) (cond b (Breaks FieldSet) Passed)) (recordOf s)
-    go true b = refl
-    go false true = refl
-    go false false = refl
-
+-- a record read by itself: by the first of 6 and 7 that applies, or as its bytes say
 pub read-refused : (s : List ℕ) {x : Refusal} → First (readLimits s) x → readReply (parsed s) ≡ Reply.refused (numberOf x) 0
 read-refused s k = ap readReply (read-by-limits s ∙ ap (λ (c : Check). readBy c (recordOf s)) (first-broken k))
 

@@ -24,9 +24,10 @@ use Rattle.events.specs.Give.{giveOf}
 use Rattle.engine.specs.Call.{emptyRun, freshOf, askOf, closeOf}
 use Rattle.engine.specs.Reply.{windowReply, givenReply, askedReply, closingReply}
 use Rattle.trailer.specs.Trailer.{trailerOf, fileLimits, openedOf, openedReply}
+use Rattle.trace.specs.Checked.{readLimits}
 use Rattle.verdict.specs.Verdict.{traceLimits, verdictOf, verdictReply}
 use Rattle.claims.specs.After.{runFrom, takenFrom}
-use Rattle.claims.specs.Traces.{readLimits, recordLimits, StopsAt, TakesAll, Rejected}
+use Rattle.claims.specs.Traces.{recordLimits, StopsAt, TakesAll, Rejected}
 
 pub record Demand1 : Type 0 where
   -- of any limits in their order, one applies first or none applies

@@ -6,28 +6,21 @@ use lib.ListN.{length, take, drop}
 use Rattle.event.specs.declared.Record.{Record}
 use Rattle.event.specs.declared.Finding.{Finding}
 use Rattle.event.specs.declared.Refusal.{Refusal}
-use Rattle.event.specs.declared.Refusal.the-variants.{UnknownKind, FieldSet}
 use Rattle.event.specs.declared.Parsed.the-variants.{Read}
 use Rattle.event.specs.Reply.{Reply, findingValues}
 use Rattle.codec.specs.Codec.{findingBytes, findingSize}
-use Rattle.records.specs.Record.{recordSize, badKind, fieldSet, recordOf}
+use Rattle.records.specs.Record.{recordSize, recordOf}
 use Rattle.history.specs.History.{History}
 use Rattle.history.specs.View.{ofHistory}
-use Rattle.history.specs.Refused.{Limit, limit, limitsBy, First, NoneBroken}
+use Rattle.history.specs.Refused.{Limit, limitsBy, First, NoneBroken}
 use Rattle.events.specs.Give.{giveOf}
 use Rattle.engine.specs.Call.{freshOf, closeOf}
 use Rattle.engine.specs.Reply.{windowReply, givenReply, closingReply}
 use Rattle.trailer.specs.Trailer.{trailerOf}
 use Rattle.trace.specs.Records.{recordPart, linesIn, recordsIn, eventsIn}
+use Rattle.trace.specs.Checked.{readLimits}
 use Rattle.verdict.specs.Verdict.{areaSize, verdictOf, verdictReply, areaAfter}
 use Rattle.claims.specs.After.{runFrom}
-
--- the limits on the bytes of a record by themselves, in order
-abbrev pub readLimits : List ℕ → List Limit
-readLimits s =
-    limit (badKind s) UnknownKind ∷  -- 6 kind not 1 to 8
-    limit (fieldSet s) FieldSet ∷  -- 7 a zero byte or lacking field set
-    []
 
 -- the limits on a record after the history, in order: 6 and 7 on its bytes, then 8 to 12 on its event
 abbrev pub recordLimits : (lines : ℕ) → History → List ℕ → List Limit

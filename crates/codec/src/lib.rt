@@ -1,4 +1,4 @@
-// Numbers as bytes, least significant byte first, and the bytes of a finding, written and read.
+// Numbers as bytes, least significant byte first, the bytes of a finding, written and read, and bytes put at a place.
 use event::Fields;
 use event::Finding;
 use event::numbers;
@@ -6,6 +6,7 @@ ghost use mathlib.Core.Path.{_≡_};
 ghost use Prim.Native.Nat.{_+_, _*_};
 ghost use lib.ListN.{getD};
 ghost use Rattle.codec.specs.Codec.{u16At, u32At, findingBytes, fieldsAt};
+ghost use Rattle.codec.specs.Placed.{placed};
 
 // The byte at a place, 0 past the end.
 pub fn byte_at(s: &[u8], at: usize) -> u8
@@ -76,5 +77,19 @@ pub fn fields_at(s: &[u8], at: u32) -> Fields
         kept: u16_at(s, i + 4),
         moment: u16_at(s, i + 6),
         store: u16_at(s, i + 8),
+    }
+}
+
+// Bytes put at a place of a slice; where they do not fit, the slice stays as it was.
+pub fn put(slice: &mut [u8], at: usize, bytes: &[u8])
+    ensures { λ _. ⌜ now (slice .exit) ≡ placed at (now (bytes .entry)) (now (slice .entry)) ⌝ }
+{
+    if slice.len() < bytes.len() || slice.len() - bytes.len() < at {
+        return;
+    }
+    let mut i = 0;
+    while i < bytes.len() {
+        slice[at + i] = bytes[i];
+        i += 1;
     }
 }

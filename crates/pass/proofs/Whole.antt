@@ -14,6 +14,8 @@ use Rattle.event.specs.declared.Check.the-variants.{Passed as Fits, Refused as 
 use Rattle.event.specs.declared.Answer.the-variants.{Refused, Found}
 use Rattle.event.specs.declared.Parsed.{Parsed}
 use Rattle.event.specs.declared.Parsed.the-variants.{Read, Refused as Unread}
+use Rattle.codec.specs.Placed.{placed}
+use Rattle.codec.proofs.Placed.{placed-length, both-placed}
 use Rattle.codec.specs.Codec.{findingBytes, findingSize}
 use Rattle.window.specs.Window.{mostLines}
 use Rattle.history.specs.History.{History}
@@ -37,8 +39,7 @@ use Rattle.trace.specs.Checked.{checkFrom, checkAll}
 use Rattle.verdict.specs.Verdict.{findingsBytes}
 use Rattle.verdict.proofs.Order.{unless-passed}
 use Rattle.verdict.proofs.Size.{findings-size}
-use Rattle.record_step.specs.Step.{placed, Stage, stage, recordAnswer}
-use Rattle.record_step.proofs.Placed.{placed-length, both-placed}
+use Rattle.record_step.specs.Step.{Stage, stage, recordAnswer}
 use Rattle.pass.specs.Pass.{recordsJudged}
 
 -- the limits of an event that the run answers

@@ -10,9 +10,10 @@ use Rattle.event.specs.declared.Answer.the-variants.{Refused, Found}
 use Rattle.event.specs.declared.Parsed.{Parsed}
 use Rattle.event.specs.declared.Parsed.the-variants.{Read, Refused as Unread}
 use Rattle.codec.specs.Codec.{findingBytes}
+use Rattle.codec.specs.Placed.{placed}
 use Rattle.events.specs.declared.Given.{Given}
 use Rattle.events.specs.Give.{giveOf}
-use Rattle.record_step.specs.Step.{placed, placedFor, Stage, stage, recordAnswer, recordGiven}
+use Rattle.record_step.specs.Step.{placedFor, Stage, stage, recordAnswer, recordGiven}
 
 -- the finding of an event, put into a buffer
 pub found-put : {a : Answer} {f : Finding} {bytes next : List ℕ} (site at : ℕ) (buffer : List ℕ) → a ≡ Found f → bytes ≡ findingBytes f site →

@@ -1,20 +1,14 @@
 -- One record given to a run, and its finding put into a buffer.
-use mathlib.Core.Bool.{cond}
-use mathlib.Core.List.{List, _++_}
-use Prim.Native.Nat.{ℕ, _+_}
-use lib.Dec.{leb}
-use lib.ListN.{length, take, drop}
+use mathlib.Core.List.{List}
+use Prim.Native.Nat.{ℕ}
 use Rattle.event.specs.declared.Answer.{Answer}
 use Rattle.event.specs.declared.Answer.the-variants.{Refused, Found}
 use Rattle.event.specs.declared.Parsed.{Parsed}
 use Rattle.event.specs.declared.Parsed.the-variants.{Read, Refused as Unread}
 use Rattle.codec.specs.Codec.{findingBytes}
+use Rattle.codec.specs.Placed.{placed}
 use Rattle.tables.specs.declared.Run.{Run}
 use Rattle.events.specs.Give.{giveOf}
-
--- the buffer with these bytes at a place; as it was where they do not fit
-abbrev pub placed : ℕ → List ℕ → List ℕ → List ℕ
-placed at bytes buffer = cond (leb (at + length bytes) (length buffer)) (take at buffer ++ bytes ++ drop (at + length bytes) buffer) buffer
 
 -- the buffer with an event's finding at a place
 abbrev pub placedFor : Answer → (site at : ℕ) → List ℕ → List ℕ

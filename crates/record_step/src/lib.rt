@@ -5,21 +5,7 @@ use events::Stepped;
 use tables::Counts;
 ghost use mathlib.Core.Path.{_≡_};
 ghost use Rattle.tables.specs.View.{runOf};
-ghost use Rattle.record_step.specs.Step.{placed, placedFor, stage, recordAnswer, recordGiven};
-
-// The 12 bytes of a finding, put at a place of the buffer; where they do not fit, the buffer stays as it was.
-fn put(buffer: &mut [u8], at: usize, bytes: [u8; 12])
-    ensures { λ _. ⌜ now (buffer .exit) ≡ placed at bytes (now (buffer .entry)) ⌝ }
-{
-    if buffer.len() < 12 || buffer.len() - 12 < at {
-        return;
-    }
-    let mut i = 0;
-    while i < 12 {
-        buffer[at + i] = bytes[i];
-        i += 1;
-    }
-}
+ghost use Rattle.record_step.specs.Step.{placedFor, stage, recordAnswer, recordGiven};
 
 // The finding that an event got, with its site, put at a place of the buffer; nothing where the event was refused.
 fn put_found(buffer: &mut [u8], at: usize, answer: Answer, site: u16)
@@ -27,7 +13,10 @@ fn put_found(buffer: &mut [u8], at: usize, answer: Answer, site: u16)
 {
     match answer {
         Answer::Refused(_) => {}
-        Answer::Found(f) => put(buffer, at, codec::finding_bytes(f, site)),
+        Answer::Found(f) => {
+            let bytes = codec::finding_bytes(f, site);
+            codec::put(buffer, at, &bytes);
+        }
     }
 }
 

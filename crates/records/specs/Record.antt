@@ -77,25 +77,33 @@ abbrev pub padded : ℕ → List ℕ → List ℕ
 padded zero s = []
 padded (suc n) s = padded n s ++ getD s n 0 ∷ []
 
--- a record as 12 bytes: fields that its kind lacks are 0
+-- the bytes of a record
 abbrev pub rangeBytes : Range → List ℕ
 rangeBytes r = u16Bytes (r .address) ++ u16Bytes (r .length)
 
+abbrev pub fieldsBytes : (kind : ℕ) (a b : Range) (site : ℕ) → List ℕ
+fieldsBytes kind a b site = kind ∷ 0 ∷ rangeBytes a ++ rangeBytes b ++ u16Bytes site
+
+-- the ranges A and B of an event: fields that its kind lacks are 0
 abbrev pub zeroRange : Range
 zeroRange = record { address = 0; length = 0 }
 
+abbrev pub rangeA : Event → Range
+rangeA e = getD (rangesOf e) 0 zeroRange
+
+abbrev pub rangeB : Event → Range
+rangeB e = getD (rangesOf e) 1 zeroRange
+
+-- a record as 12 bytes
 abbrev pub recordBytes : Event → ℕ → List ℕ
-recordBytes e site =
-    kindOf e ∷ 0 ∷ rangeBytes (getD (rangesOf e) 0 zeroRange) ++ rangeBytes (getD (rangesOf e) 1 zeroRange) ++ u16Bytes site
+recordBytes e site = fieldsBytes (kindOf e) (rangeA e) (rangeB e) site
 
 -- a record read by itself: kind, A address, A length, B address, B length, site
 abbrev pub rangeValues : Range → List ℕ
 rangeValues r = r .address ∷ r .length ∷ []
 
 abbrev pub recordValues : Record → List ℕ
-recordValues r =
-    let ranges = rangesOf (r .event) in
-    kindOf (r .event) ∷ rangeValues (getD ranges 0 zeroRange) ++ rangeValues (getD ranges 1 zeroRange) ++ r .site ∷ []
+recordValues r = kindOf (r .event) ∷ rangeValues (rangeA (r .event)) ++ rangeValues (rangeB (r .event)) ++ r .site ∷ []
 
 abbrev pub readReply : Parsed → Reply
 readReply (Read r) = Reply.values (recordValues r)

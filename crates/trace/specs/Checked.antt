@@ -3,17 +3,25 @@ use mathlib.Core.Bool.{cond}
 use mathlib.Core.List.{List, [], _∷_}
 use Prim.Native.Nat.{ℕ, suc}
 use lib.Dec.{eqb}
-use Rattle.event.specs.declared.Refusal.the-variants.{TransactionOpen}
+use Rattle.event.specs.declared.Refusal.the-variants.{UnknownKind, FieldSet, TransactionOpen}
 use Rattle.event.specs.declared.Check.{Check}
 use Rattle.event.specs.declared.Check.the-variants.{Passed as Fits, Refused as Breaks}
 use Rattle.event.specs.declared.Parsed.{Parsed}
 use Rattle.event.specs.declared.Parsed.the-variants.{Read, Refused as Unread}
+use Rattle.records.specs.Record.{badKind, fieldSet}
 use Rattle.history.specs.History.{History}
 use Rattle.history.specs.Transaction.{depth}
 use Rattle.history.specs.View.{ofHistory}
-use Rattle.history.specs.Refused.{refusalBy}
+use Rattle.history.specs.Refused.{Limit, limit, refusalBy}
 use Rattle.trace.specs.declared.TraceCheck.{TraceCheck}
 use Rattle.trace.specs.declared.TraceCheck.the-variants.{Passed, Refused}
+
+-- the limits on the bytes of a record by themselves, in order
+abbrev pub readLimits : List ℕ → List Limit
+readLimits s =
+    limit (badKind s) UnknownKind ∷  -- 6 kind not 1 to 8
+    limit (fieldSet s) FieldSet ∷  -- 7 a zero byte or lacking field set
+    []
 
 -- where a check passes, the rest decides; where it does not, the trace is refused at number n
 abbrev pub unlessBroken : Check → ℕ → TraceCheck → TraceCheck

@@ -14,6 +14,9 @@ enum-known-answer c = search needs
 finding-bytes-requires : tie.Need-finding-bytes-requires
 finding-bytes-requires c κs = search needs
 
+slice-aggregate-put : tie.Need-slice-aggregate-put
+slice-aggregate-put c = search needs
+
 put-requires : tie.Need-put-requires
 put-requires c κs = search needs
 
@@ -25,8 +28,8 @@ same-length c = search needs
 
 returns-2 : tie.Need-returns-2
 returns-2 c =
-    let f = c .before .before .before in
-    let a = f .before .before .before in
+    let f = c .before .before .before .before .before in
+    let a = f .before .before in
     let k = a .before .before .before .args in
     found-put (k .site) (k .at) (k .buffer .now) (a .answer .given .1) (f .finding-bytes .ensures) (c .before .before .put .ensures)
 
@@ -37,6 +40,7 @@ put-found-spec =
     enum-told
     enum-known-answer
     finding-bytes-requires
+    slice-aggregate-put
     put-requires
     returns
     same-length

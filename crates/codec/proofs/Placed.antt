@@ -9,7 +9,7 @@ use lib.Dec.{leb}
 use lib.ListN.{length, getD, set, take, drop}
 use lib.Seq.{paste, paste-suc, length-paste, take-paste, drop-paste, take-length, drop-drop}
 use borrow.Author.Tests.{leb-true, le-leb, lt-leb}
-use Rattle.record_step.specs.Step.{placed}
+use Rattle.codec.specs.Placed.{placed}
 
 -- one byte more
 pub put-more : (d : List ℕ) (at : ℕ) (bytes : List ℕ) (i : ℕ) {area : List ℕ} → area ≡ paste d at bytes i → at + i < length d → i < length bytes →
