@@ -1,26 +1,32 @@
-//! The proved judge beside other checkers: compared on random traces, fuzzed, and timed.
+//! The proved judge beside other checkers: compared on random traces, fuzzed, and timed; and the
+//! proved writer, compared on random lists of calls.
 
 mod bench;
 mod differential;
 mod fuzz;
 mod growth;
 mod judge;
+mod lists;
 mod plain;
 mod plot;
 mod progress;
 mod ranges;
 mod workloads;
+mod writer;
+mod writing;
 
 use differential::Judge;
 use std::io::{self, ErrorKind, Write};
 use std::process::ExitCode;
+use writing::Writer;
 
 const HELP: &str = "\
 harness: the proved judge beside other checkers
 
 usage:
   harness differential [TRACES [SEED]]   compare the judges with the unrelated checker on random
-                                         traces (200,000 of seed 1)
+                                         traces (200,000 of seed 1), and the writer on as many
+                                         lists of calls
   harness fuzz [STRINGS [SEED]]          give the proved judge arbitrary strings of bytes
                                          (1,000,000 of seed 1)
   harness bench [SVG]                    time the proved judge beside an implementation in plain Rust
@@ -44,6 +50,12 @@ const PLAIN: Judge = Judge {
 
 /// The judges that `differential` compares with the unrelated checker.
 const JUDGES: [Judge; 2] = [PROVED, PLAIN];
+
+/// The writer that `differential` compares with the unrelated one.
+const WRITER: Writer = Writer {
+    name: "proved",
+    call: writer::call,
+};
 
 const DEFAULT_SEED: u64 = 1;
 
@@ -85,7 +97,7 @@ fn run(words: &[&str]) -> Result<String, Failure> {
         ["--help" | "-h"] => Ok(HELP.to_string()),
         ["differential", numbers @ ..] => {
             let (traces, seed) = count_and_seed(words[0], numbers, differential::TRACES)?;
-            differential::command(&JUDGES, traces, seed).map_err(Failure::Found)
+            compared(traces, seed).map_err(Failure::Found)
         }
         ["fuzz", numbers @ ..] => {
             let (strings, seed) = count_and_seed(words[0], numbers, fuzz::STRINGS)?;
@@ -99,6 +111,12 @@ fn run(words: &[&str]) -> Result<String, Failure> {
         [] => Err(usage("harness: a command is missing")),
         [word, ..] => Err(usage(&format!("harness: no command `{word}`"))),
     }
+}
+
+/// The judges on so many traces, and the writer on as many lists of calls.
+fn compared(traces: u64, seed: u64) -> Result<String, String> {
+    let text = differential::command(&JUDGES, traces, seed)?;
+    Ok(text + &writing::command(&WRITER, traces, seed)?)
 }
 
 /// The table, after the plot has been written.

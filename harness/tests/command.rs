@@ -45,9 +45,16 @@ fn help_names_the_commands() {
 
 #[test]
 fn small_runs_print_the_same_counts_each_time() {
-    for (command, first, last) in [
-        ("differential", "traces 500\n", "\nseed 7\ndiffer 0\n"),
-        ("fuzz", "strings 500\n", "\nseed 7\nbad 0\n"),
+    for (command, parts) in [
+        (
+            "differential",
+            [
+                "traces 500\n",
+                "\nlists of calls to the writer 500\n",
+                "\nseed 7\ndiffer 0\n",
+            ],
+        ),
+        ("fuzz", ["strings 500\n", "\nbytes ", "\nseed 7\nbad 0\n"]),
     ] {
         let (one, other) = (
             harness(&[command, "500", "7"]),
@@ -56,6 +63,8 @@ fn small_runs_print_the_same_counts_each_time() {
         assert_eq!(one.status.code(), Some(0));
         assert_eq!(one.stdout, other.stdout);
         let said = text(&one.stdout);
+        let [first, middle, last] = parts;
         assert!(said.starts_with(first) && said.ends_with(last), "{said}");
+        assert!(said.contains(middle), "{said}");
     }
 }

@@ -8,8 +8,9 @@
 //! - [`judge`] goes from event to event with what it knows of each line (module [`direct`]).
 //!
 //! Both read the trace file with the same code (module [`trace`]). Events can also be given singly,
-//! and the persist interval of a byte asked for (module [`singly`]); module [`calls`] makes a file of
-//! such calls and the text of their answers.
+//! and the persist interval of a byte asked for (module [`singly`]). Module [`writer`] writes a
+//! trace file into an area, event by event. Module [`calls`] makes a file of calls on single events
+//! and of the writer, and the text of their answers.
 
 pub mod calls;
 pub mod check;
@@ -24,6 +25,7 @@ pub mod random;
 pub mod script;
 pub mod singly;
 pub mod trace;
+pub mod writer;
 
 pub use event::{Event, Range, Record};
 pub use finding::{Finding, Kind};

@@ -18,7 +18,8 @@ usage:
   reference check SCRIPT...          judge each script's trace both ways, and compare it with the
                                      script's `expect` and `refused` lines
   reference corpus CORPUS SUMMARY    write the corpus and its summary
-  reference calls CALLS ANSWERS      write calls on single events, and the text of their answers
+  reference calls CALLS ANSWERS      write calls on single events and of the writer, and the text
+                                     of their answers
   reference --help                   print this text
 
 SCRIPT and the TRACE of `judge` may be `-` for standard input.

@@ -305,7 +305,7 @@ fn hex_byte(word: &str) -> Result<u8, String> {
     value.ok_or_else(|| format!("`{word}` is not a byte of two hexadecimal digits"))
 }
 
-fn record_bytes(words: &[&str]) -> Result<[u8; RECORD], String> {
+pub(crate) fn record_bytes(words: &[&str]) -> Result<[u8; RECORD], String> {
     let bytes: Vec<u8> = words
         .iter()
         .map(|word| hex_byte(word))

@@ -5,6 +5,7 @@ use reference::calls::{self, Answer, Call, Calls, Counts, Sort};
 use reference::direct::Run;
 use reference::images::{self, History};
 use reference::random::{self, Random, Shape};
+use reference::writer::Writer;
 use reference::{singly, Event, Finding, Interval, Kind, Range, Record, Refusal, Totals, Way};
 use std::path::Path;
 
@@ -466,18 +467,108 @@ fn bytes_of_calls() {
         assert_eq!(call.to_bytes(), bytes);
         assert_eq!(Call::from_bytes(&bytes), Some(call));
     }
-    for kind in (0..=255).filter(|kind| !matches!(kind, 1..=8 | 16..=19)) {
+}
+
+#[test]
+fn kinds_and_fields_of_calls() {
+    for kind in 0..=255 {
         let mut bytes = [0; 12];
         bytes[0] = kind;
-        assert_eq!(Call::from_bytes(&bytes), None, "kind {kind}");
+        let known = matches!(kind, 1..=8 | 16..=19 | 32..=37 | 64..=127);
+        assert_eq!(Call::from_bytes(&bytes).is_some(), known, "kind {kind}");
     }
-    for kind in 16..=19 {
+    for kind in (16..=19).chain(32..=37).chain(64..=127) {
         for at in 1..12 {
             let mut bytes = [0; 12];
             (bytes[0], bytes[at]) = (kind, 1);
-            let lacking = !(2..4).contains(&at) || kind == 18;
-            assert_eq!(Call::from_bytes(&bytes).is_none(), lacking, "{bytes:?}");
+            let has = match kind {
+                18 | 36 => false,
+                16..=19 | 35 => (2..4).contains(&at),
+                // 65,536 bytes are in the bounds, 2^24 are not.
+                32 | 34 => (2..5).contains(&at),
+                33 => (2..5).contains(&at) || at == 6,
+                _ => true,
+            };
+            assert_eq!(Call::from_bytes(&bytes).is_some(), has, "{bytes:?}");
         }
+    }
+}
+
+/// A writer's numbers, all of them different.
+const ANY_WRITER: Writer = Writer {
+    lines: 258,
+    offset: 0x0403_0201,
+    count: 0xffff_fffe,
+    open: 255,
+};
+const UNKNOWN: [u8; 12] = [63, 0, 2, 1, 3, 0, 0, 0, 0, 0, 5, 0];
+
+/// Calls of the writer, their bytes and their words.
+const OF_WRITER: [(Call, [u8; 12], &str); 9] = [
+    (
+        Call::Area(65_600),
+        [32, 0, 64, 0, 1, 0, 0, 0, 0, 0, 0, 0],
+        "area 65600",
+    ),
+    (
+        Call::Preamble(258, 9),
+        [33, 0, 2, 1, 0, 0, 9, 0, 0, 0, 0, 0],
+        "preamble 258 from 9",
+    ),
+    (
+        Call::PreambleOfArea(28),
+        [34, 0, 28, 0, 0, 0, 0, 0, 0, 0, 0, 0],
+        "preamble of area 28",
+    ),
+    (
+        Call::Start(258),
+        [35, 0, 2, 1, 0, 0, 0, 0, 0, 0, 0, 0],
+        "start 258",
+    ),
+    (
+        Call::Finish,
+        [36, 0, 0, 0, 0, 0, 0, 0, 0, 0, 0, 0],
+        "finish",
+    ),
+    (
+        Call::Writer(ANY_WRITER),
+        [37, 255, 2, 1, 1, 2, 3, 4, 254, 255, 255, 255],
+        "writer 258 67305985 4294967294 255",
+    ),
+    (
+        Call::Write([1, 0, 2, 1, 3, 0, 0, 0, 0, 0, 5, 0]),
+        [65, 0, 2, 1, 3, 0, 0, 0, 0, 0, 5, 0],
+        "write store 258/3",
+    ),
+    (
+        Call::Write([1, 255, 2, 1, 3, 0, 0, 0, 0, 0, 5, 0]),
+        [65, 255, 2, 1, 3, 0, 0, 0, 0, 0, 5, 0],
+        "write record",
+    ),
+    (
+        Call::Write(UNKNOWN),
+        [127, 0, 2, 1, 3, 0, 0, 0, 0, 0, 5, 0],
+        "write record",
+    ),
+];
+
+#[test]
+fn calls_of_the_writer() {
+    for (call, bytes, words) in OF_WRITER {
+        assert_eq!(call.to_bytes(), bytes);
+        assert_eq!(Call::from_bytes(&bytes), Some(call));
+        assert_eq!(call.to_string(), words);
+        if words != "write record" {
+            assert_eq!(Call::parse(5, words), Ok(call));
+        }
+        assert!(call.is_of_writer());
+    }
+    let words = "write record 3f 00 02 01 03 00 00 00 00 00 05 00";
+    assert_eq!(Call::parse(5, words), Ok(Call::Write(UNKNOWN)));
+    // One byte more than an area or a preamble may have.
+    for kind in 32..=34 {
+        let bytes = [kind, 0, 65, 0, 1, 0, 0, 0, 0, 0, 0, 0];
+        assert_eq!(Call::from_bytes(&bytes), None);
     }
 }
 
@@ -485,34 +576,100 @@ fn bytes_of_calls() {
 fn calls_cover_every_answer() {
     let made = build();
     let counts = Counts::of(&made);
-    let some = |sort: Sort, least: usize| {
-        let count = counts.sort(sort);
-        assert!(count >= least, "{sort:?}: {count}");
+    let some = |name: &'static str, sort: Sort, least: usize| {
+        let count = counts.count(name, sort);
+        assert!(count >= least, "{name}: {sort:?}: {count}");
     };
-    for number in [4, 8, 9, 10, 11, 12, 13] {
-        some(Sort::Refused(number), 10);
+    some("fresh", Sort::Refused(4), 10);
+    some("ask", Sort::Refused(9), 10);
+    some("close", Sort::Refused(13), 10);
+    for number in 8..=12 {
+        some("event", Sort::Refused(number), 10);
     }
     for kind in Kind::ALL {
-        some(Sort::Finding(kind.number()), 30);
+        some("event", Sort::Finding(kind.number()), 30);
     }
     for sort in [Sort::NoInterval, Sort::Open, Sort::Closed, Sort::OpenAgain] {
-        some(sort, 100);
+        some("ask", sort, 100);
     }
     let both = made.entries.iter().filter(|entry| entry.both_ways).count();
     assert!(both >= 150, "{both} runs both ways");
 }
 
 #[test]
+fn calls_of_the_writer_cover_every_answer() {
+    let made = build();
+    let counts = Counts::of(&made);
+    let some = |name: &'static str, sort: Sort, least: usize| {
+        let count = counts.count(name, sort);
+        assert!(count >= least, "{name}: {sort:?}: {count}");
+    };
+    some("start", Sort::Taken, 100);
+    for number in [2, 4, 15] {
+        some("start", Sort::Refused(number), 5);
+    }
+    some("write", Sort::Taken, 1_000);
+    for number in [2, 6, 7, 8, 9, 11, 12, 15] {
+        some("write", Sort::Refused(number), 10);
+    }
+    // 2 comes before 10.
+    assert_eq!(counts.count("write", Sort::Refused(10)), 0);
+    some("finish", Sort::Length, 200);
+    for number in [13, 15] {
+        some("finish", Sort::Refused(number), 50);
+    }
+    for name in ["area", "preamble", "preamble of area", "writer"] {
+        some(name, Sort::Silent, 20);
+    }
+    let closed = made.closed();
+    assert!(closed.files >= 200 && closed.by_images >= 200, "{closed:?}");
+}
+
+#[test]
 fn calls_stay_in_their_bounds() {
     let made = build();
-    let count = made.calls().count();
-    assert!((5_000..=12_000).contains(&count), "{count}");
-    assert!(made.to_bytes().len() <= 150_000);
-    assert!(made.text().len() <= 350_000);
+    let of_writer = made.calls().filter(|call| call.is_of_writer()).count();
+    let on_runs = made.calls().count() - of_writer;
+    assert!((5_000..=12_000).contains(&on_runs), "{on_runs}");
+    assert!((2_000..=4_000).contains(&of_writer), "{of_writer}");
+    assert!(made.to_bytes().len() <= 180_000);
+    assert!(made.text().len() <= 400_000);
     for entry in &made.entries {
         let (first, others) = entry.case.calls.split_first().expect("a run has calls");
-        assert!(matches!(first, Call::Fresh(_)));
-        assert!(!others.iter().any(|call| matches!(call, Call::Fresh(_))));
+        if entry.case.is_of_writer() {
+            assert!(matches!(first, Call::Area(_)));
+            assert!(others.iter().all(|call| call.is_of_writer()));
+        } else {
+            assert!(matches!(first, Call::Fresh(_)));
+            let on_run = |call: &Call| !matches!(call, Call::Fresh(_)) && !call.is_of_writer();
+            assert!(others.iter().all(on_run));
+        }
+    }
+    // The calls of the writer come last.
+    let kinds = made.entries.iter().map(|entry| entry.case.is_of_writer());
+    assert!(kinds.is_sorted());
+}
+
+/// No answer depends on a case before: the preamble is set before a start, and a writer is there
+/// before a record is given or a file closed.
+#[test]
+fn cases_of_the_writer_stand_alone() {
+    let made = build();
+    let cases = made.entries.iter();
+    for entry in cases.filter(|entry| entry.case.is_of_writer()) {
+        let (mut preamble, mut writer) = (false, false);
+        for (call, answer) in entry.case.calls.iter().zip(&entry.answers) {
+            match call {
+                Call::Preamble(..) | Call::PreambleOfArea(_) => preamble = true,
+                Call::Writer(_) => writer = true,
+                Call::Start(_) => {
+                    assert!(preamble, "{:?}", entry.case);
+                    writer |= matches!(answer, Some(Answer::Writer(Ok(_), _)));
+                }
+                Call::Write(_) | Call::Finish => assert!(writer, "{:?}", entry.case),
+                _ => {}
+            }
+        }
     }
 }
 

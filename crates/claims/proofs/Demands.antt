@@ -43,6 +43,7 @@ use Rattle.claims.proofs.Calls.{called-after}
 use Rattle.claims.proofs.Records.{read-refused, read-taken}
 use Rattle.claims.proofs.Traces.{records-decided, trailer-refused, trailer-taken, trace-refused, record-refused, trace-open, trace-taken}
 use Rattle.claims.proofs.Singly.{given-singly}
+use Rattle.claims.proofs.WriterLimits.{start-refused, start-taken, write-refused, write-taken, bytes-refused, bytes-taken, file-refused, file-taken}
 use Rattle.claims.proofs.Failure.{holds-exactly, else-lost, else-out-of-order, else-end-lost}
 
 -- a fresh window
@@ -114,6 +115,18 @@ demand1 =
       recordsDecided = λ trace. records-decided (linesIn trace) 1 [] (trailerOf trace .count) (recordPart (trailerOf trace .offset) trace);
       traceOpen = trace-open;
       traceTaken = trace-taken;
+      startNumbers = λ room preamble lines. refl;
+      startRefused = start-refused;
+      startTaken = start-taken;
+      writeNumbers = λ room at v e. refl;
+      writeRefused = write-refused;
+      writeTaken = write-taken;
+      bytesNumbers = λ room at v s. refl;
+      bytesRefused = bytes-refused;
+      bytesTaken = bytes-taken;
+      fileNumbers = λ room at depth. refl;
+      fileRefused = file-refused;
+      fileTaken = file-taken;
     }
 
 pub demand2 : Demand2

@@ -10,4 +10,8 @@ pub mod Traces  -- which traces are refused, by which number and at which record
 pub mod Area  -- records that are all taken, and the bytes of their findings
 pub mod Singly  -- an accepted trace has the findings and totals of its events given singly
 pub mod Failure  -- an assertion that does not hold is lost or out of order
+pub mod Writing  -- what the area of a writer holds, and what each call answers and leaves
+pub mod WriterRuns  -- the answers to any calls on a writer
+pub mod WriterLimits  -- a writer's calls, whatever the writer
+pub mod Written  -- request 1 holds
 pub mod Demands  -- the demands hold

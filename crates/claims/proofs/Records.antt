@@ -8,7 +8,7 @@ use Rattle.event.specs.declared.Record.{Record}
 use Rattle.event.specs.declared.Refusal.{Refusal}
 use Rattle.event.specs.declared.Refusal.the-variants.{UnknownKind, FieldSet}
 use Rattle.event.specs.declared.Check.{Check}
-use Rattle.event.specs.declared.Check.the-variants.{Passed, Refused as Breaks}
+use Rattle.event.specs.declared.Check.the-variants.{Refused as Breaks}
 use Rattle.event.specs.declared.Parsed.{Parsed}
 use Rattle.event.specs.declared.Parsed.the-variants.{Read, Refused as Unread}
 use Rattle.event.specs.Numbers.{numberOf}

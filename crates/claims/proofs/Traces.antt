@@ -79,7 +79,7 @@ module _ (trace area : List ℕ) where
   trace-refused k = rejected (ap (λ (c : Check). unlessBroken c 0 (checkAll (linesIn trace) (recordsIn trace))) (first-broken k))
 
   -- where none is, the records decide
-  records-check : NoneBroken (traceLimits trace area) → traceCheck trace area ≡ checkAll (linesIn trace) (recordsIn trace)
+  pub records-check : NoneBroken (traceLimits trace area) → traceCheck trace area ≡ checkAll (linesIn trace) (recordsIn trace)
   records-check k = ap (λ (c : Check). unlessBroken c 0 (checkAll (linesIn trace) (recordsIn trace))) (none-broken k)
 
   -- a record is refused

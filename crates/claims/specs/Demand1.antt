@@ -1,11 +1,11 @@
--- Demand 1, for fresh windows, events, bytes asked, closings, records and traces: whatever breaks a stated limit is refused by the
--- first number that applies, and by no number otherwise; run and findings area are then what they were. The numbers 1 to 14 are
--- document 01's; so is the record's number beside each.
+-- Demand 1, for fresh windows, events, bytes asked, closings, records and traces, and for a writer's calls: whatever breaks a stated
+-- limit is refused by the first number that applies, and by no number otherwise; run, findings area, writer and its area are then what
+-- they were. The numbers 1 to 14 are document 01's; so is the record's number beside each. 15 is request 1's.
 use mathlib.Core.Path.{_≡_}
 use mathlib.Core.Logic.{_≢_, _⊎_}
-use mathlib.Core.List.{List, [], _∷_}
-use Prim.Native.Nat.{ℕ, _≤_, _<_}
-use lib.ListN.{getD}
+use mathlib.Core.List.{List, [], _∷_, _++_}
+use Prim.Native.Nat.{ℕ, _+_, _≤_, _<_}
+use lib.ListN.{length, drop, getD}
 use Rattle.event.specs.declared.Event.{Event}
 use Rattle.event.specs.declared.Record.{Record}
 use Rattle.event.specs.declared.Finding.{Finding}
@@ -17,15 +17,20 @@ use Rattle.codec.specs.Codec.{u16At}
 use Rattle.records.specs.Record.{parsed, readReply}
 use Rattle.history.specs.History.{History}
 use Rattle.history.specs.Transaction.{depth}
-use Rattle.history.specs.View.{ofHistory}
+use Rattle.history.specs.View.{View, ofHistory}
 use Rattle.history.specs.Refused.{Limit, limitsBy, limitNumbers, First, NoneBroken}
 use Rattle.history.specs.Given.{windowOf, RefusedBy, Accepted}
 use Rattle.events.specs.Give.{giveOf}
 use Rattle.engine.specs.Call.{emptyRun, freshOf, askOf, closeOf}
 use Rattle.engine.specs.Reply.{windowReply, givenReply, askedReply, closingReply}
-use Rattle.trailer.specs.Trailer.{trailerOf, fileLimits, openedOf, openedReply}
+use Rattle.trailer.specs.Trailer.{trailerSize, trailerOf, fileLimits, openedOf, openedReply}
 use Rattle.trace.specs.Checked.{readLimits}
 use Rattle.verdict.specs.Verdict.{traceLimits, verdictOf, verdictReply}
+use Rattle.file.specs.declared.Writer.{Writer}
+use Rattle.file.specs.declared.Started.the-variants.{Ready}
+use Rattle.file.specs.Limits.{startLimits, writeLimits, bytesLimits, closeLimits}
+use Rattle.file.specs.Write.{writerWith, recordsEnd, viewOf, startedOf, areaStarted, writtenOf, areaWritten, bytesWrittenOf, areaBytesWritten, closedOf, areaClosed}
+use Rattle.file.specs.Reply.{startReply, writtenReply, closedReply}
 use Rattle.claims.specs.After.{runFrom, takenFrom}
 use Rattle.claims.specs.Traces.{recordLimits, StopsAt, TakesAll, Rejected}
 
@@ -79,3 +84,32 @@ pub record Demand1 : Type 0 where
   -- else by no number
   pub traceTaken : (trace area : List ℕ) {h : History} (number at : ℕ) → NoneBroken (traceLimits trace area) → TakesAll trace h →
       depth h ≡ 0 → verdictReply (verdictOf trace area) ≢ Reply.refused number at
+  -- a writer's start: the first of 4, 2, 15 that applies, with no writer and the area as it was; or the writer, and the preamble at the
+  -- area's start
+  pub startNumbers : (room preamble lines : ℕ) → limitNumbers (startLimits room preamble lines) ≡ 4 ∷ 2 ∷ 15 ∷ []
+  pub startRefused : (area preamble : List ℕ) (lines : ℕ) {x : Refusal} → First (startLimits (length area) (length preamble) lines) x →
+      (startReply (startedOf area preamble lines) ≡ Reply.refused (numberOf x) 0) × (areaStarted area preamble lines ≡ area)
+  pub startTaken : (area preamble : List ℕ) (lines : ℕ) → NoneBroken (startLimits (length area) (length preamble) lines) →
+      (startedOf area preamble lines ≡ Ready (writerWith lines (length preamble) 0 0)) ×
+      (areaStarted area preamble lines ≡ preamble ++ drop (length preamble) area)
+  -- an event given to any writer: the first of 2, 8, 9, 10, 11, 12, 15 that applies, with writer and area as they were
+  pub writeNumbers : (room at : ℕ) (v : View) (e : Event) → limitNumbers (writeLimits room at v e) ≡ 2 ∷ 8 ∷ 9 ∷ 10 ∷ 11 ∷ 12 ∷ 15 ∷ []
+  pub writeRefused : (area : List ℕ) (w : Writer) (r : Record) {x : Refusal} →
+      First (writeLimits (length area) (recordsEnd w) (viewOf w) (r .event)) x →
+      (writtenReply (writtenOf area w r) ≡ Reply.refused (numberOf x) 0) × (writtenOf area w r .writer ≡ w) × (areaWritten area w r ≡ area)
+  pub writeTaken : (area : List ℕ) (w : Writer) (r : Record) → NoneBroken (writeLimits (length area) (recordsEnd w) (viewOf w) (r .event)) →
+      writtenReply (writtenOf area w r) ≡ Reply.values []
+  -- an event that comes as bytes: 6 and 7 after 2 and before 8
+  pub bytesNumbers : (room at : ℕ) (v : View) (s : List ℕ) →
+      limitNumbers (bytesLimits room at v s) ≡ 2 ∷ 6 ∷ 7 ∷ 8 ∷ 9 ∷ 10 ∷ 11 ∷ 12 ∷ 15 ∷ []
+  pub bytesRefused : (area : List ℕ) (w : Writer) (s : List ℕ) {x : Refusal} → First (bytesLimits (length area) (recordsEnd w) (viewOf w) s) x →
+      (writtenReply (bytesWrittenOf area w s) ≡ Reply.refused (numberOf x) 0) × (bytesWrittenOf area w s .writer ≡ w) ×
+      (areaBytesWritten area w s ≡ area)
+  pub bytesTaken : (area : List ℕ) (w : Writer) (s : List ℕ) → NoneBroken (bytesLimits (length area) (recordsEnd w) (viewOf w) s) →
+      writtenReply (bytesWrittenOf area w s) ≡ Reply.values []
+  -- a file closed by any writer: the first of 13, 15 that applies, with the area as it was
+  pub fileNumbers : (room at depth : ℕ) → limitNumbers (closeLimits room at depth) ≡ 13 ∷ 15 ∷ []
+  pub fileRefused : (area : List ℕ) (w : Writer) {x : Refusal} → First (closeLimits (length area) (recordsEnd w) (w .depth)) x →
+      (closedReply (closedOf area w) ≡ Reply.refused (numberOf x) 0) × (areaClosed area w ≡ area)
+  pub fileTaken : (area : List ℕ) (w : Writer) → NoneBroken (closeLimits (length area) (recordsEnd w) (w .depth)) →
+      closedReply (closedOf area w) ≡ Reply.values ((recordsEnd w + trailerSize) ∷ [])

@@ -1,2 +1,2 @@
--- What the calls of this program hand over.
-pub mod Runs
+-- What calls that are read from bytes lead to.
+pub mod Runs  -- the run after a call

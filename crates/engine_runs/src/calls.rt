@@ -1,5 +1,4 @@
 // The calls of the engine, each with its line printed.
-use crate::print;
 use event::Event;
 use event::Parsed;
 use event::Record;
@@ -15,7 +14,7 @@ fn fresh(lines: u16) -> Run
 {
     let w = engine::fresh(lines);
     let check = w.check;
-    print::fresh(lines, check);
+    call_lines::fresh(lines, check);
     w.run
 }
 
@@ -25,14 +24,14 @@ fn give(run: Run, bytes: &[u8]) -> Run
 {
     match records::read_record(bytes) {
         Parsed::Refused(x) => {
-            print::unread(x);
+            call_lines::unread(x);
             run
         }
         Parsed::Read(r) => {
             let g = engine::give(run, r);
             let event = r.event;
             let answer = g.answer;
-            print::given(event, answer);
+            call_lines::given(event, answer);
             g.run
         }
     }
@@ -41,13 +40,13 @@ fn give(run: Run, bytes: &[u8]) -> Run
 // A byte asked.
 fn ask(run: Run, byte: u16) {
     let a = engine::ask(run, byte);
-    print::asked(byte, a);
+    call_lines::asked(byte, a);
 }
 
 // The run closed.
 fn close(run: Run) {
     let c = engine::close(run);
-    print::closed(c);
+    call_lines::closed(c);
 }
 
 // So many fences given, with no line printed, and the run after them.

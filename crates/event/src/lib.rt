@@ -64,7 +64,7 @@ pub struct Fields {
     pub store: u16,
 }
 
-// The fourteen reasons for a refusal, in the order of their numbers.
+// The fifteen reasons for a refusal, in the order of their numbers.
 pub enum Refusal {
     TraceTooShort,
     TraceTooLong,
@@ -80,6 +80,7 @@ pub enum Refusal {
     TooDeep,
     TransactionOpen,
     AreaTooShort,
+    FileAreaTooShort,
 }
 
 // What a check of the limits says.

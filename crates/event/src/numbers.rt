@@ -1,9 +1,26 @@
-// The paper's number for each case of a finding and a refusal.
+// The paper's number for each case of an event, a finding and a refusal.
+use crate::Event;
 use crate::Fields;
 use crate::Finding;
 use crate::Refusal;
 ghost use mathlib.Core.Path.{_≡_};
-ghost use Rattle.event.specs.Numbers.{fieldsWith, fieldsOf, numberOf};
+ghost use Rattle.event.specs.Numbers.{kindOf, fieldsWith, fieldsOf, numberOf};
+
+// An event's kind, 1 to 8.
+pub fn kind(e: Event) -> u8
+    ensures { λ n. ⌜ n ≡ kindOf e ⌝ }
+{
+    match e {
+        Event::Store(_) => 1,
+        Event::WriteBack(_) => 2,
+        Event::Fence => 3,
+        Event::Begin => 4,
+        Event::Log(_) => 5,
+        Event::End => 6,
+        Event::Persisted(_) => 7,
+        Event::Ordered(_, _) => 8,
+    }
+}
 
 // The fields of a finding that has lost alone, or none of them.
 fn only_lost(kind: u8, lost: u16) -> Fields
@@ -58,7 +75,7 @@ pub fn fields(f: Finding) -> Fields
     }
 }
 
-// A refusal's number, 1 to 14.
+// A refusal's number, 1 to 15.
 pub fn number(r: Refusal) -> u8
     ensures { λ n. ⌜ n ≡ numberOf r ⌝ }
 {
@@ -77,5 +94,6 @@ pub fn number(r: Refusal) -> u8
         Refusal::TooDeep => 12,
         Refusal::TransactionOpen => 13,
         Refusal::AreaTooShort => 14,
+        Refusal::FileAreaTooShort => 15,
     }
 }

@@ -59,13 +59,13 @@ unfolding answerOf refusalBy
 answer-found lines h r k = ap (λ (c : Check). answerFor c (findingBy (ofHistory lines h) (r .event))) (none-broken k)
 
 -- one number applies first, and not beside none
-one-number : {limits : List Limit} {x y : Refusal} → First limits x → First limits y → x ≡ y
+pub one-number : {limits : List Limit} {x y : Refusal} → First limits x → First limits y → x ≡ y
 one-number (First.here a) (First.here b) = refl
 one-number (First.here a) (First.later b c) = absurd (contradiction a b)
 one-number (First.later b c) (First.here a) = absurd (contradiction a b)
 one-number (First.later a b) (First.later c d) = one-number b d
 
-not-both : {limits : List Limit} {x : Refusal} → First limits x → NoneBroken limits → ⊥
+pub not-both : {limits : List Limit} {x : Refusal} → First limits x → NoneBroken limits → ⊥
 not-both (First.here a) (NoneBroken.cons b c) = contradiction a b
 not-both (First.later a b) (NoneBroken.cons c d) = not-both b d
 

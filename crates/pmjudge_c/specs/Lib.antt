@@ -1,2 +1,3 @@
--- The judge for programs in C or Rust.
-pub mod Answer  -- an answer as numbers
+-- The judge and the writer for programs in C or Rust.
+pub mod Answer  -- the judge's answer as numbers
+pub mod Writer  -- a writer and its answers as numbers

@@ -1,4 +1,6 @@
-// The judge for programs in C or Rust: one call. Its name starts with the library's, since a name is the whole program's, as in C.
+// The judge for programs in C or Rust. The names of calls start with the library's, since a name is the whole program's, as in C.
+pub mod writing; // the writer of traces
+
 use event::numbers;
 use verdict::Verdict;
 ghost use mathlib.Core.Path.{_≡_};
@@ -19,14 +21,8 @@ fn answer_of(v: Verdict) -> [u32; 5]
     }
 }
 
-// Judges a trace into a findings area. In C:
-//
-//     void pmjudge_judge(const uint8_t *trace, size_t trace_length,
-//                        uint8_t *area, size_t area_length, uint32_t answer[5]);
-//
-// The answer: the refusal's number, 0 where the trace is accepted; the number of the record refused; events, fences, and findings
-// other than none. No pointer is null, and neither area nor answer shares a byte with another of the three. A call takes about 100 KB of
-// the caller's stack: 65,520 bytes for findings and 33,024 for tables, and little more.
+// Judges a trace into a findings area. What it answers, and what the caller has to see to (no null pointer, no byte shared), stands in
+// include/pmjudge.h. A call takes about 100 KB of the caller's stack: 65,520 bytes for findings and 33,024 for tables, and little more.
 #[no_mangle]
 pub extern "C" fn pmjudge_judge(trace: &[u8], area: &mut [u8], answer: &mut [u32; 5])
     ensures { λ _. ⌜ now (answer .exit) ≡ fiveNumbers (verdictReply (verdictOf (now (trace .entry)) (now (area .entry)))) ⌝ }

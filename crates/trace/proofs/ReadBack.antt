@@ -1,7 +1,7 @@
 -- A trace laid out as its parts is read as them.
-use mathlib.Core.Path.{_≡_, refl, ap, _∙_}
+use mathlib.Core.Path.{_≡_, refl, sym, ap, _∙_}
 use mathlib.Core.Bool.{false}
-use mathlib.Core.List.{List, [], _∷_, _++_, map}
+use mathlib.Core.List.{List, [], _∷_, _++_, map, append-assoc}
 use Prim.Native.Nat.{ℕ, _+_, _*_, _≤_}
 use native.Mathlib.Omega.{arith}
 use lib.ListN.{length, length-append}
@@ -9,7 +9,7 @@ use borrow.Author.Tests.{le-ltb, eq-eqb}
 use Rattle.event.specs.declared.Record.{Record}
 use Rattle.event.specs.declared.Parsed.the-variants.{Read}
 use Rattle.window.specs.Window.{badLines}
-use Rattle.records.specs.Record.{recordSize}
+use Rattle.records.specs.Record.{recordSize, recordBytes}
 use Rattle.records.proofs.RoundTrip.{read-back}
 use Rattle.trailer.specs.declared.Trailer.{Trailer}
 use Rattle.trailer.specs.declared.Opened.the-variants.{Known}
@@ -24,6 +24,14 @@ records-length : (events : List Record) → length (recordsBytes events) ≡ rec
 unfolding recordsBytes
 records-length [] = refl
 records-length (r ∷ rest) = let e : length (recordsBytes rest) ≡ recordSize * length rest = records-length rest in omega arith
+
+-- the records of events after others follow theirs
+pub records-append : (events more : List Record) → recordsBytes (events ++ more) ≡ recordsBytes events ++ recordsBytes more
+unfolding recordsBytes
+records-append [] more = refl
+records-append (r ∷ rest) more =
+    ap (λ (l : List ℕ). recordBytes (r .event) (r .site) ++ l) (records-append rest more) ∙
+    sym (append-assoc (recordBytes (r .event) (r .site)) (recordsBytes rest) (recordsBytes more))
 
 -- the bytes of records are read back
 records-read-back : (events : List Record) → recordsOf (length events) (recordsBytes events) ≡ map Read events
@@ -43,7 +51,7 @@ module _ (free : List ℕ) (events : List Record) (lines : ℕ) where
   s = traceBytes free events lines
 
   -- it ends where its trailer says
-  trace-length : length free + recordSize * length events + trailerSize ≡ length s
+  pub trace-length : length free + recordSize * length events + trailerSize ≡ length s
   trace-length =
       simp (length-append (free ++ recordsBytes events) (trailerWith (length free) (length events) lines), length-append free (recordsBytes events))
       (omega (arith, records-length events))

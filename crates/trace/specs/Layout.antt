@@ -1,5 +1,5 @@
--- A trace as its parts lie: free bytes, the records, the trailer. Nothing writes a trace yet; that exactly these bytes are read as
--- these events says what the definitions of the reader mean.
+-- A trace as its parts lie: free bytes, the records, the trailer. These bytes the writer writes; that exactly they are read as these
+-- events says what the definitions of the reader mean.
 use mathlib.Core.List.{List, [], _∷_, _++_}
 use Prim.Native.Nat.{ℕ}
 use lib.ListN.{length}

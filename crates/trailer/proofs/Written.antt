@@ -1,4 +1,4 @@
--- The trailer of a trace that is opened: the bytes that it is read from are those that a writer would put.
+-- The trailer of a trace that is opened: the bytes that it is read from are those that the writer puts.
 use mathlib.Core.Path.{_≡_, refl, sym, ap, ap₂, _∙_}
 use mathlib.Core.Bool.{true}
 use mathlib.Core.List.{List, [], _∷_, _++_}

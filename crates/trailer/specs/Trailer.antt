@@ -81,6 +81,6 @@ abbrev pub openedReply : Opened → Reply
 openedReply (Refused x) = Reply.refused (numberOf x) 0
 openedReply (Known t) = Reply.values (t .offset ∷ t .count ∷ t .lines ∷ [])
 
--- a trailer as a writer would put it. That exactly these bytes are read as these fields says what the definitions above mean
+-- a trailer as the writer puts it. That exactly these bytes are read as these fields says what the definitions above mean
 abbrev pub trailerWith : (offset count lines : ℕ) → List ℕ
 trailerWith offset count lines = mark ++ u32Bytes offset ++ u32Bytes count ++ u16Bytes lines ++ u16Bytes 0

@@ -1,5 +1,6 @@
-//! The answers to calls, in either way.
+//! The answers to calls, those on a run in either way.
 
+use super::writing::{Change, Writing};
 use super::{Call, FENCE};
 use crate::finding::{Finding, Kind};
 use crate::interval::Interval;
@@ -7,7 +8,7 @@ use crate::outcome::{Refusal, Totals};
 use crate::{singly, Way};
 use std::fmt;
 
-#[derive(Clone, Copy, Debug, PartialEq, Eq)]
+#[derive(Clone, Debug, PartialEq, Eq)]
 pub enum Answer {
     /// The fresh window is as asked for.
     Taken,
@@ -15,34 +16,48 @@ pub enum Answer {
     Interval(Interval),
     Totals(Totals),
     Refused(u8),
+    /// From the writer: taken, with the file's length if it is a closing, or refused by a number;
+    /// and what the call changed in the area.
+    Writer(Result<Option<usize>, u8>, Option<Change>),
 }
 
-/// The answers to calls, of which the first is a fresh window. Fences given without an answer
-/// have `None`.
+/// The answers to calls. Of those on a run, the first is a fresh window. Calls for which nothing is
+/// printed have `None`.
 pub fn answers<W: Way>(calls: &[Call]) -> Vec<Option<Answer>> {
-    let Some(Call::Fresh(lines)) = calls.first() else {
-        panic!("the first call is a fresh window");
+    let mut run = None;
+    let mut writing = Writing::new();
+    let answer_to = |&call: &Call| match call {
+        Call::Fresh(lines) => {
+            let (fresh, taken) = singly::fresh::<W>(lines);
+            run = Some(fresh);
+            Some(or_refused(taken.map(|()| Answer::Taken)))
+        }
+        call if call.is_of_writer() => writing.answer(call),
+        call => {
+            let run = run.as_mut().expect("a run starts with a fresh window");
+            answer(run, call)
+        }
     };
-    let (mut run, _) = singly::fresh::<W>(*lines);
-    calls.iter().map(|&call| answer(&mut run, call)).collect()
+    calls.iter().map(answer_to).collect()
 }
 
+/// The answer to a call on a run that is there.
 fn answer<W: Way>(run: &mut W, call: Call) -> Option<Answer> {
     let answered = match call {
         Call::Give(record) => singly::give(run, &record).map(Answer::Finding),
-        Call::Fresh(lines) => {
-            let (fresh, taken) = singly::fresh(lines);
-            *run = fresh;
-            taken.map(|()| Answer::Taken)
-        }
         Call::Ask(byte) => singly::ask(run, usize::from(byte)).map(Answer::Interval),
         Call::Close => singly::close(run).map(Answer::Totals),
         Call::Fences(count) => {
             give_fences(run, count);
             return None;
         }
+        _ => panic!("not a call on a run that is there: {call}"),
     };
-    Some(answered.unwrap_or_else(|Refusal { number, .. }| Answer::Refused(number)))
+    Some(or_refused(answered))
+}
+
+fn or_refused(answered: Result<Answer, Refusal>) -> Answer {
+    answered.unwrap_or_else(|Refusal { number, .. }| Answer::Refused(number))
 }
 
 /// Gives fences whose answers are not wanted, refusals included.
@@ -65,6 +80,14 @@ impl fmt::Display for Answer {
                 write!(f, "events {events} fences {fences} findings {found}")
             }
             Answer::Refused(number) => write!(f, "refused {number}"),
+            Answer::Writer(result, change) => {
+                match result {
+                    Ok(None) => write!(f, "taken"),
+                    Ok(Some(length)) => write!(f, "length {length}"),
+                    Err(number) => write!(f, "refused {number}"),
+                }?;
+                change.iter().try_for_each(|change| write!(f, " {change}"))
+            }
         }
     }
 }

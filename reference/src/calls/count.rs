@@ -17,6 +17,8 @@ pub enum Sort {
     OpenAgain,
     Closed,
     Totals,
+    /// Of a closed file.
+    Length,
     Refused(u8),
     /// Nothing is printed.
     Silent,
@@ -32,6 +34,7 @@ impl fmt::Display for Sort {
             Sort::OpenAgain => write!(f, "open again"),
             Sort::Closed => write!(f, "closed"),
             Sort::Totals => write!(f, "totals"),
+            Sort::Length => write!(f, "length"),
             Sort::Refused(number) => write!(f, "refused {number}"),
             Sort::Silent => write!(f, "silent"),
         }
@@ -55,8 +58,8 @@ impl Counts {
 
     fn add(&mut self, entry: &Entry) {
         let mut closed = BTreeSet::new();
-        for (&call, &answer) in entry.case.calls.iter().zip(&entry.answers) {
-            let sort = match (call, sort(answer)) {
+        for (&call, answer) in entry.case.calls.iter().zip(&entry.answers) {
+            let sort = match (call, sort(answer.as_ref())) {
                 (Call::Ask(byte), Sort::Open) if closed.contains(&byte) => Sort::OpenAgain,
                 (Call::Ask(byte), Sort::Closed) => {
                     closed.insert(byte);
@@ -68,10 +71,9 @@ impl Counts {
         }
     }
 
-    /// The count of a sort, over all calls.
-    pub fn sort(&self, sort: Sort) -> usize {
-        let counts = self.counts.iter().filter(|((_, other), _)| *other == sort);
-        counts.map(|(_, count)| count).sum()
+    /// The count of a sort, for the calls of a name.
+    pub fn count(&self, name: &'static str, sort: Sort) -> usize {
+        self.counts.get(&(name, sort)).copied().unwrap_or(0)
     }
 
     /// A line for each name of a call.
@@ -86,7 +88,7 @@ impl Counts {
     }
 }
 
-fn sort(answer: Option<Answer>) -> Sort {
+fn sort(answer: Option<&Answer>) -> Sort {
     match answer {
         None => Sort::Silent,
         Some(Answer::Taken) => Sort::Taken,
@@ -95,7 +97,9 @@ fn sort(answer: Option<Answer>) -> Sort {
         Some(Answer::Interval(Interval::Open(_))) => Sort::Open,
         Some(Answer::Interval(Interval::Closed(..))) => Sort::Closed,
         Some(Answer::Totals(_)) => Sort::Totals,
-        Some(Answer::Refused(number)) => Sort::Refused(number),
+        Some(Answer::Writer(Ok(None), _)) => Sort::Taken,
+        Some(Answer::Writer(Ok(Some(_)), _)) => Sort::Length,
+        Some(Answer::Refused(number) | Answer::Writer(Err(number), _)) => Sort::Refused(*number),
     }
 }
 
@@ -106,5 +110,12 @@ fn name(call: Call) -> &'static str {
         Call::Ask(_) => "ask",
         Call::Close => "close",
         Call::Fences(_) => "fences",
+        Call::Area(_) => "area",
+        Call::Preamble(..) => "preamble",
+        Call::PreambleOfArea(_) => "preamble of area",
+        Call::Start(_) => "start",
+        Call::Finish => "finish",
+        Call::Writer(_) => "writer",
+        Call::Write(_) => "write",
     }
 }

@@ -42,8 +42,15 @@ pub(super) fn cases() -> Vec<Case> {
     cases
 }
 
+/// Events for a window of so many lines, with some that may be refused among them.
+pub(super) fn events(random: &mut Random, lines: u16) -> Vec<Event> {
+    let mut drawer = Drawer::new(random, lines);
+    let shape = drawer.shape();
+    drawer.events(&shape)
+}
+
 /// The lines that the run of this number asks for.
-fn window(random: &mut Random, number: usize) -> u16 {
+pub(super) fn window(random: &mut Random, number: usize) -> u16 {
     let round = number / 10;
     match number % 10 {
         0 | 1 => 1,

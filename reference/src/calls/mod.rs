@@ -1,17 +1,23 @@
-//! Calls on single events (a fresh window, an event given, a byte asked, a closing) as a file, and
-//! the text of their answers.
+//! Calls on single events (a fresh window, an event given, a byte asked, a closing) and calls of
+//! the writer as a file, and the text of their answers.
 //!
 //! Making them needs no clock: both are the same each time, byte for byte.
 
 mod answer;
 mod call;
+mod closed;
 mod count;
 mod drawn;
+mod writer_drawn;
+mod writer_written;
+mod writing;
 mod written;
 
 pub use answer::{answers, Answer};
 pub use call::Call;
+pub use closed::Closed;
 pub use count::{Counts, Sort};
+pub use writing::Change;
 
 use crate::direct::Run;
 use crate::event::{Event, Record};
@@ -26,12 +32,21 @@ const FENCE: Record = Record {
     site: 0,
 };
 
-/// A fresh window and the calls on it, before they are answered.
+/// A fresh window and the calls on it, or an area and the calls of the writer, before they are
+/// answered.
 #[derive(Clone, Debug, PartialEq, Eq)]
 pub struct Case {
     pub group: &'static str,
-    /// The first one is a fresh window; no other is.
+    /// The first one is a fresh window, and no other is; or the first one is an area, and all are
+    /// calls of the writer.
     pub calls: Vec<Call>,
+}
+
+impl Case {
+    /// Whether the calls are of the writer, and not on a run.
+    pub fn is_of_writer(&self) -> bool {
+        self.calls.first().is_some_and(|call| call.is_of_writer())
+    }
 }
 
 /// A case with the answers to its calls.
@@ -40,8 +55,10 @@ pub struct Entry {
     pub case: Case,
     /// One for each call; `None` if nothing is printed for it.
     pub answers: Vec<Option<Answer>>,
-    /// Answered by images too, with the same answers.
+    /// Answered by images too, with the same answers. The writer has only one way.
     pub both_ways: bool,
+    /// The files closed by the writer, all of them accepted and read back.
+    pub closed: Closed,
 }
 
 /// The calls and their answers.
@@ -55,6 +72,8 @@ impl Calls {
     pub fn build() -> Result<Calls, String> {
         let mut cases = written::cases();
         cases.extend(drawn::cases());
+        cases.extend(writer_written::cases());
+        cases.extend(writer_drawn::cases());
         let entries = cases.into_iter().map(entry).collect::<Result<_, _>>()?;
         Ok(Calls { entries })
     }
@@ -78,10 +97,25 @@ impl Calls {
         lines.extend(Counts::of(self).lines());
         let both = self.entries.iter().filter(|entry| entry.both_ways).count();
         let (runs, calls) = (self.entries.len(), self.calls().count());
+        let of_writer = self.calls().filter(|call| call.is_of_writer()).count();
+        let Closed { files, by_images } = self.closed();
+        lines.push(format!(
+            "{of_writer} calls of the writer, {files} closed files judged, \
+             {by_images} of them by images too"
+        ));
         lines.push(format!(
             "{calls} calls in {runs} runs, {both} of them answered both ways"
         ));
         lines
+    }
+
+    /// The files closed by the writer.
+    pub fn closed(&self) -> Closed {
+        let all = self.entries.iter().map(|entry| entry.closed);
+        all.fold(Closed::default(), |sum, closed| Closed {
+            files: sum.files + closed.files,
+            by_images: sum.by_images + closed.by_images,
+        })
     }
 
     /// The calls file.
@@ -118,37 +152,46 @@ impl Entry {
 }
 
 fn entry(case: Case) -> Result<Entry, String> {
-    let answered = answers::<Run>(&case.calls);
-    let both_ways = small_enough(&case.calls, &answered);
+    let answers = answers::<Run>(&case.calls);
+    let of_writer = case.is_of_writer();
+    let both_ways = !of_writer && small_enough(&case.calls, &answers);
     if both_ways {
-        let enumerated = answers::<History>(&case.calls);
-        if let Some(at) = (0..answered.len()).find(|&at| answered[at] != enumerated[at]) {
-            return Err(difference(&case, at, answered[at], enumerated[at]));
-        }
+        compare(&case, &answers)?;
     }
+    let closed = if of_writer {
+        closed::check(&case)?
+    } else {
+        Closed::default()
+    };
     Ok(Entry {
         case,
-        answers: answered,
+        answers,
         both_ways,
+        closed,
     })
 }
 
-fn difference(case: &Case, at: usize, direct: Option<Answer>, images: Option<Answer>) -> String {
-    let words = |answer: Option<Answer>| answer.map_or(String::new(), |answer| answer.to_string());
-    format!(
-        "{}: the two ways differ at call {at}, {}: direct `{}`, by images `{}`",
-        case.group,
-        case.calls[at],
-        words(direct),
-        words(images)
-    )
+/// Compares the answers with those by images.
+fn compare(case: &Case, direct: &[Option<Answer>]) -> Result<(), String> {
+    let enumerated = answers::<History>(&case.calls);
+    let words = |answer: &Option<Answer>| answer.as_ref().map_or(String::new(), Answer::to_string);
+    match (0..direct.len()).find(|&at| direct[at] != enumerated[at]) {
+        None => Ok(()),
+        Some(at) => Err(format!(
+            "{}: the two ways differ at call {at}, {}: direct `{}`, by images `{}`",
+            case.group,
+            case.calls[at],
+            words(&direct[at]),
+            words(&enumerated[at])
+        )),
+    }
 }
 
 /// Whether answering by images is quick, see [`images::small_enough_events`].
 fn small_enough(calls: &[Call], answers: &[Option<Answer>]) -> bool {
     let mut lines = 1;
     let mut accepted = Vec::new();
-    for (&call, &answer) in calls.iter().zip(answers) {
+    for (&call, answer) in calls.iter().zip(answers) {
         match (call, answer) {
             (Call::Fresh(asked), Some(Answer::Taken)) => lines = asked,
             (Call::Give(record), Some(Answer::Finding(_))) => accepted.push(record),

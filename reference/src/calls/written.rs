@@ -17,7 +17,7 @@ pub(super) fn cases() -> Vec<Case> {
     cases
 }
 
-fn case(group: &'static str, run: &str) -> Case {
+pub(super) fn case(group: &'static str, run: &str) -> Case {
     let calls = run.split(';').enumerate().map(|(at, words)| {
         let call = Call::parse(at, words);
         call.unwrap_or_else(|mistake| panic!("{run}: {mistake}"))
@@ -29,7 +29,7 @@ fn case(group: &'static str, run: &str) -> Case {
 }
 
 /// The same call several times.
-fn repeat(call: &str, times: usize) -> String {
+pub(super) fn repeat(call: &str, times: usize) -> String {
     vec![call; times].join("; ")
 }
 

@@ -1,4 +1,4 @@
-// The line of each call, on standard output.
+// The line of each call of `engine_runs`, on standard output.
 use engine::Asked;
 use engine::Closing;
 use event::Answer;
@@ -9,15 +9,23 @@ use event::Interval;
 use event::Range;
 use event::Refusal;
 use event::numbers;
+use file::Closed;
+use file::Started;
 use libc::STDOUT_FILENO;
 
 // The words as they are.
-fn words(text: &[u8]) {
+pub fn words(text: &[u8]) {
     io::write_all(STDOUT_FILENO, text);
 }
 
 // The words, and a number after them.
-fn field(text: &[u8], n: u16) {
+pub fn field(text: &[u8], n: u16) {
+    words(text);
+    io::print_decimal(STDOUT_FILENO, n as u64);
+}
+
+// The words, and a place after them.
+pub fn place(text: &[u8], n: usize) {
     words(text);
     io::print_decimal(STDOUT_FILENO, n as u64);
 }
@@ -130,5 +138,46 @@ pub fn closed(c: Closing) {
             field(b" findings ", findings);
             words(b"\n");
         }
+    }
+}
+
+// What the limits say of a writer's call; the line goes on.
+fn taken(c: Check) {
+    match c {
+        Check::Passed => words(b"taken"),
+        Check::Refused(x) => field(b"refused ", numbers::number(x) as u16),
+    }
+}
+
+// A start with so many lines, and its answer; the line goes on.
+pub fn started(lines: u16, s: Started) {
+    field(b"start ", lines);
+    words(b": ");
+    match s {
+        Started::Ready(_) => taken(Check::Passed),
+        Started::Refused(x) => taken(Check::Refused(x)),
+    }
+}
+
+// An event written, and its answer; the line goes on.
+pub fn written(e: Event, c: Check) {
+    words(b"write ");
+    event(e);
+    words(b": ");
+    taken(c);
+}
+
+// The same for a record that cannot be read.
+pub fn written_record(c: Check) {
+    words(b"write record: ");
+    taken(c);
+}
+
+// A file closed, and its length; the line goes on.
+pub fn finished(c: Closed) {
+    words(b"finish: ");
+    match c {
+        Closed::File(length) => place(b"length ", length),
+        Closed::Refused(x) => taken(Check::Refused(x)),
     }
 }

@@ -1,0 +1,15 @@
+-- `writer::is_too_long` meets its contract.
+-- Assumes nothing.
+use borrow.Author.Needs.{needs}
+use Rattle.file.proofs.Parts.{length-tested}
+use Rattle.writer.proofs.is_too_long.Statement.{statement}
+use Rattle.writer.proofs.is_too_long.Tie as tie
+
+sub-result : tie.Need-sub-result
+sub-result c = search needs
+
+returns : tie.Need-returns
+returns c = length-tested (c .args .end)
+
+pub is-too-long-spec : {M : Type 1} → statement M
+is-too-long-spec = tie.close (tie.spec sub-result returns)

@@ -1,0 +1,197 @@
+// The writer of a trace file, over an area that the caller lends and does not write to in between.
+use event::Check;
+use event::Event;
+use event::Parsed;
+use event::Record;
+use event::Refusal;
+use file::Closed;
+use file::Started;
+use file::Writer;
+use file::Written;
+ghost use mathlib.Core.Path.{_≡_};
+ghost use mathlib.Core.Bool.{true};
+ghost use mathlib.Core.List.{[], _∷_};
+ghost use Prim.Native.Nat.{_+_, _<_};
+ghost use lib.Dec.{ltb};
+ghost use Rattle.records.specs.Record.{recordSize};
+ghost use Rattle.history.specs.Transaction.{depthAfter};
+ghost use Rattle.history.specs.Refused.{limit, firstBroken, refusalBy};
+ghost use Rattle.trailer.specs.Trailer.{trailerSize, mostBytes};
+ghost use Rattle.file.specs.Limits.{lengthLimit, roomLimit, startLimits};
+ghost use Rattle.file.specs.Write.{recordsEnd, viewOf, startedOf, areaStarted, writerAfter, writtenFor, writeCheck, writtenOf, areaWritten};
+ghost use Rattle.file.specs.Write.{bytesWrittenOf, areaBytesWritten, closedOf, areaClosed};
+
+// Behind the last record.
+fn records_end(w: Writer) -> usize
+    ensures { λ n. ⌜ n ≡ recordsEnd w ⌝ }
+{
+    (w.offset as usize) + 12 * (w.count as usize)
+}
+
+// The limit 2: whether a file whose trailer stands behind this place is too long.
+fn is_too_long(end: usize) -> bool
+    ensures { λ t. ⌜ t ≡ ltb mostBytes (end + trailerSize) ⌝ }
+{
+    65536 - 16 < end
+}
+
+// The limit 15: whether the area has room for bytes that end at this place.
+fn check_room(room: usize, end: usize) -> Check
+    ensures { λ c. ⌜ c ≡ firstBroken (roomLimit room end ∷ []) ⌝ }
+{
+    if room < end {
+        Check::Refused(Refusal::FileAreaTooShort)
+    } else {
+        Check::Passed
+    }
+}
+
+// The limits on a start: 4, 2, 15.
+fn check_start(room: usize, preamble: usize, lines: u16) -> Check
+    ensures { λ c. ⌜ c ≡ firstBroken (startLimits room preamble lines) ⌝ }
+{
+    match window::check_lines(lines) {
+        Check::Refused(x) => Check::Refused(x),
+        Check::Passed => {
+            if is_too_long(preamble) {
+                return Check::Refused(Refusal::TraceTooLong);
+            }
+            check_room(room, preamble)
+        }
+    }
+}
+
+// Starts a file: its preamble goes to the area's start. Refused by the first of 4, 2, 15 that applies, and the area as it was.
+pub fn start(area: &mut [u8], preamble: &[u8], lines: u16) -> Started
+    ensures { λ r. ⌜ r ≡ startedOf (now (area .entry)) (now (preamble .entry)) lines ⌝ }
+    ensures { λ _. ⌜ now (area .exit) ≡ areaStarted (now (area .entry)) (now (preamble .entry)) lines ⌝ }
+{
+    match check_start(area.len(), preamble.len(), lines) {
+        Check::Refused(x) => Started::Refused(x),
+        Check::Passed => {
+            codec::put(area, 0, preamble);
+            Started::Ready(Writer {
+                lines,
+                offset: preamble.len() as u32,
+                count: 0,
+                depth: 0,
+            })
+        }
+    }
+}
+
+// The limit 2 on an event: whether the file with one record more is too long.
+fn is_full(w: Writer) -> bool
+    ensures { λ t. ⌜ t ≡ ltb mostBytes (recordsEnd w + recordSize + trailerSize) ⌝ }
+{
+    is_too_long(records_end(w) + 12)
+}
+
+// The limits on an event: 2; 8 to 12; 15.
+fn check_write(room: usize, w: Writer, e: Event) -> Check
+    ensures { λ c. ⌜ c ≡ writeCheck room w e ⌝ }
+{
+    if is_full(w) {
+        return Check::Refused(Refusal::TraceTooLong);
+    }
+    match limits::check_event(w.lines, w.count as u16, w.depth, e) {
+        Check::Refused(x) => Check::Refused(x),
+        Check::Passed => check_room(room, records_end(w) + 12),
+    }
+}
+
+// The transactions open after an event that no limit refuses.
+fn depth_after(w: Writer, e: Event) -> u16
+    requires { ⌜ refusalBy (viewOf w) e ≡ Check.Passed ⌝ }
+    ensures { λ d. ⌜ d ≡ depthAfter e (w .depth) ⌝ }
+{
+    match e {
+        Event::Begin => w.depth + 1,
+        Event::End => w.depth - 1,
+        Event::Store(_) => w.depth,
+        Event::WriteBack(_) => w.depth,
+        Event::Fence => w.depth,
+        Event::Log(_) => w.depth,
+        Event::Persisted(_) => w.depth,
+        Event::Ordered(_, _) => w.depth,
+    }
+}
+
+// The writer after an event that no limit refuses.
+fn next(w: Writer, e: Event) -> Writer
+    requires { ⌜ (refusalBy (viewOf w) e ≡ Check.Passed) × (w .count < 65536) ⌝ }
+    ensures { λ r. ⌜ r ≡ writerAfter w e ⌝ }
+{
+    Writer {
+        lines: w.lines,
+        offset: w.offset,
+        count: w.count + 1,
+        depth: depth_after(w, e),
+    }
+}
+
+// Writes an event: its record goes behind the last one. Refused by the first of 2, 8, 9, 10, 11, 12, 15 that applies, and writer and
+// area as they were.
+pub fn write(area: &mut [u8], w: Writer, r: Record) -> Written
+    ensures { λ x. ⌜ x ≡ writtenOf (now (area .entry)) w r ⌝ }
+    ensures { λ _. ⌜ now (area .exit) ≡ areaWritten (now (area .entry)) w r ⌝ }
+{
+    let e = r.event;
+    match check_write(area.len(), w, e) {
+        Check::Refused(x) => Written {
+            check: Check::Refused(x),
+            writer: w,
+        },
+        Check::Passed => {
+            let bytes = layout::record_bytes(r);
+            codec::put(area, records_end(w), &bytes);
+            Written {
+                check: Check::Passed,
+                writer: next(w, e),
+            }
+        }
+    }
+}
+
+// A refusal of an event that cannot be read: 2 where it applies, else the number that reading gave.
+fn unread(w: Writer, x: Refusal) -> Written
+    ensures { λ r. ⌜ r ≡ writtenFor (firstBroken (lengthLimit (recordsEnd w + recordSize) ∷ limit true x ∷ [])) w Event.Fence ⌝ }
+{
+    let check = if is_full(w) {
+        Check::Refused(Refusal::TraceTooLong)
+    } else {
+        Check::Refused(x)
+    };
+    Written { check, writer: w }
+}
+
+// Writes an event that comes as the bytes of a record: 6 and 7 are looked at after 2 and before 8.
+pub fn write_bytes(area: &mut [u8], w: Writer, bytes: &[u8]) -> Written
+    ensures { λ x. ⌜ x ≡ bytesWrittenOf (now (area .entry)) w (now (bytes .entry)) ⌝ }
+    ensures { λ _. ⌜ now (area .exit) ≡ areaBytesWritten (now (area .entry)) w (now (bytes .entry)) ⌝ }
+{
+    match records::read_record(bytes) {
+        Parsed::Refused(x) => unread(w, x),
+        Parsed::Read(r) => write(area, w, r),
+    }
+}
+
+// Closes the file: the trailer goes behind the last record. Refused by 13 or else by 15, and the area as it was. The writer does not
+// change: an event written afterwards takes the trailer's place.
+pub fn close(area: &mut [u8], w: Writer) -> Closed
+    ensures { λ r. ⌜ r ≡ closedOf (now (area .entry)) w ⌝ }
+    ensures { λ _. ⌜ now (area .exit) ≡ areaClosed (now (area .entry)) w ⌝ }
+{
+    if w.depth != 0 {
+        return Closed::Refused(Refusal::TransactionOpen);
+    }
+    let at = records_end(w);
+    match check_room(area.len(), at + 16) {
+        Check::Refused(x) => Closed::Refused(x),
+        Check::Passed => {
+            let bytes = layout::trailer_bytes(w.offset, w.count, w.lines);
+            codec::put(area, at, &bytes);
+            Closed::File(at + 16)
+        }
+    }
+}

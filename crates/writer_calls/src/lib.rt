@@ -1,0 +1,4 @@
+// The calls of a writer that `engine_runs` makes.
+mod changes; // the bytes that a call changed, printed
+pub mod setting; // the area and the preamble of a writer
+pub mod writing; // the calls, printed

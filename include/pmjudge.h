@@ -1,0 +1,147 @@
+/*
+ * The judge of persistent-memory traces, and the writer of traces, for programs in C and C++.
+ * README.md says what a trace and a finding are. `rt staticlib pmjudge_c` builds the library,
+ * target/staticlib/libpmjudge_c.a.
+ *
+ * The library keeps nothing between calls, allocates nothing and prints nothing. No pointer may be
+ * null, also where its length is 0. An area, a writer and an answer share no byte with another
+ * argument of the same call.
+ */
+#ifndef PMJUDGE_H
+#define PMJUDGE_H
+
+#include <stddef.h>
+#include <stdint.h>
+
+#ifdef __cplusplus
+extern "C" {
+#endif
+
+/* Bytes of a record, of a finding and of the trailer of a trace. */
+#define PMJUDGE_RECORD_SIZE 12
+#define PMJUDGE_FINDING_SIZE 12
+#define PMJUDGE_TRAILER_SIZE 16
+
+/* The most bytes of a trace, and the most records. */
+#define PMJUDGE_MOST_BYTES 65536
+#define PMJUDGE_MOST_RECORDS 5460
+
+/* The window: the bytes of a cache line, and the most lines. */
+#define PMJUDGE_LINE_SIZE 64
+#define PMJUDGE_MOST_LINES 64
+
+/* The most transactions open at once. */
+#define PMJUDGE_MOST_DEPTH 8
+
+/* Why a call is refused: the first number of every answer. */
+enum pmjudge_refusal {
+    PMJUDGE_ACCEPTED = 0,
+    PMJUDGE_TRACE_TOO_SHORT = 1,     /* a trace under 16 bytes */
+    PMJUDGE_TRACE_TOO_LONG = 2,      /* a trace over 65,536 bytes, counting a trailer to come */
+    PMJUDGE_MARK_DIFFERS = 3,        /* a trailer without the mark */
+    PMJUDGE_BAD_LINES = 4,           /* lines outside 1 to 64, or the trailer's zero field set */
+    PMJUDGE_LENGTH_DIFFERS = 5,      /* offset + 12 * count + 16 is not the length */
+    PMJUDGE_UNKNOWN_KIND = 6,        /* a kind of event that is not 1 to 8 */
+    PMJUDGE_FIELD_SET = 7,           /* a zero byte, or a field that the kind lacks, is set */
+    PMJUDGE_EMPTY_RANGE = 8,         /* a range of length 0 */
+    PMJUDGE_PAST_WINDOW = 9,         /* a range past the window */
+    PMJUDGE_EVENTS_EXHAUSTED = 10,   /* more than 65,535 events; no trace is that long */
+    PMJUDGE_NO_TRANSACTION = 11,     /* a log or an end outside a transaction */
+    PMJUDGE_TOO_DEEP = 12,           /* a ninth begin inside eight */
+    PMJUDGE_TRANSACTION_OPEN = 13,   /* a transaction that is still open at the end */
+    PMJUDGE_AREA_TOO_SHORT = 14,     /* a findings area under 12 bytes for each record */
+    PMJUDGE_FILE_AREA_TOO_SHORT = 15 /* a writer's area without room for what a call puts there */
+};
+
+/* The kinds of event, with the ranges that each has. */
+enum pmjudge_event {
+    PMJUDGE_STORE = 1,      /* A */
+    PMJUDGE_WRITE_BACK = 2, /* A: clwb of every line that it touches */
+    PMJUDGE_FENCE = 3,      /* sfence */
+    PMJUDGE_BEGIN = 4,      /* a transaction begins */
+    PMJUDGE_LOG = 5,        /* A goes into the undo log */
+    PMJUDGE_END = 6,        /* a transaction ends */
+    PMJUDGE_PERSISTED = 7,  /* assert that A is durable now */
+    PMJUDGE_ORDERED = 8     /* assert that A is durable before B */
+};
+
+/* The kinds of finding. */
+enum pmjudge_finding {
+    PMJUDGE_NONE = 0,
+    PMJUDGE_HOLDS = 1,
+    PMJUDGE_LOST = 2,
+    PMJUDGE_OUT_OF_ORDER = 3,
+    PMJUDGE_UNLOGGED = 4,
+    PMJUDGE_CLEAN = 5,
+    PMJUDGE_WRITTEN_TWICE = 6,
+    PMJUDGE_LOGGED_TWICE = 7,
+    PMJUDGE_EMPTY = 8
+};
+
+/*
+ * Judges a trace into a findings area.
+ *
+ * answer[0] is the refusal, PMJUDGE_ACCEPTED if there is none, and answer[1] the number of the
+ * record refused: from 1, and 0 if no record is meant. answer[2] to answer[4] are the events, the
+ * fences and the findings other than PMJUDGE_NONE; all 0 for a refused trace. A trace is refused by
+ * the first number that applies: 1 to 5, 14; then record by record 6 to 12; then 13.
+ *
+ * An accepted trace puts its findings at the area's start, PMJUDGE_FINDING_SIZE bytes for each
+ * record in order: the kind, a zero byte, then lost, kept, moment, store and site, 16 bits each with
+ * the least significant byte first. The area's other bytes stay as they were; all of them do if the
+ * trace is refused.
+ *
+ * A call takes about 100 KB of the caller's stack: 65,520 bytes for findings, 33,024 for tables, and
+ * little more.
+ */
+void pmjudge_judge(const uint8_t *trace, size_t trace_length, uint8_t *area, size_t area_length,
+                   uint32_t answer[5]);
+
+/*
+ * A trace is written into an area of the caller by a start, one event after another, and a closing.
+ * It takes the preamble's bytes, PMJUDGE_RECORD_SIZE bytes for each event and PMJUDGE_TRAILER_SIZE
+ * bytes; an area of PMJUDGE_MOST_BYTES has room for every trace. Between the calls the caller keeps
+ * the area and the writer, and changes neither. The writer's numbers are the window's lines, the
+ * preamble's length, the events put and the transactions open. (Of a writer that no start handed
+ * over, the first number and the last are taken modulo 65,536, the length is given modulo 2^32, and
+ * the judge may refuse the trace.)
+ *
+ * answer[0] is the refusal, PMJUDGE_ACCEPTED if there is none. answer[1] is the trace's length after
+ * an accepted closing, else 0. A refused call leaves area and writer as they were; an accepted one
+ * changes no byte of the area but those that it puts there.
+ */
+
+/*
+ * Starts a trace: puts the preamble, bytes that the judge passes over, at the area's start, and sets
+ * the writer. Refused by the first that applies: 4; 2, a preamble that with a trailer has over 65,536
+ * bytes; 15, an area shorter than the preamble.
+ */
+void pmjudge_writer_start(uint8_t *area, size_t area_length, const uint8_t *preamble,
+                          size_t preamble_length, uint16_t lines, uint32_t writer[4],
+                          uint32_t answer[2]);
+
+/*
+ * Puts an event behind those before it. The kind is one of enum pmjudge_event; a and b are addresses
+ * in bytes from the window's start, and 0, as their lengths, where the kind lacks the range. The
+ * site is any number that tells the caller where the event comes from, for instance a source line.
+ * Refused by the first that applies: 2, a trace that with this event and a trailer has over 65,536
+ * bytes; 6 to 12, where the judge would refuse the record at this place; 15.
+ */
+void pmjudge_writer_event(uint8_t *area, size_t area_length, uint32_t writer[4], uint8_t kind,
+                          uint16_t a, uint16_t a_length, uint16_t b, uint16_t b_length,
+                          uint16_t site, uint32_t answer[2]);
+
+/*
+ * Closes a trace: puts the trailer behind the events. The area's first answer[1] bytes are then a
+ * trace that the judge accepts. Refused by the first that applies: 13; 15. The writer does not
+ * change: an event given after the closing takes the trailer's place, and the trace needs closing
+ * again.
+ */
+void pmjudge_writer_close(uint8_t *area, size_t area_length, const uint32_t writer[4],
+                          uint32_t answer[2]);
+
+#ifdef __cplusplus
+}
+#endif
+
+#endif
