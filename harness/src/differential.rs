@@ -2,7 +2,8 @@
 
 use crate::judge::Answer;
 use crate::progress::Progress;
-use reference::finding::Kind;
+use reference::event::LINE;
+use reference::finding::{Finding, Kind};
 use reference::outcome::{findings_bytes, Outcome};
 use reference::random::{self, Mix, Random, Shape};
 use reference::trace::{self, Body, MAX_TRACE, RECORD, TRAILER};
@@ -154,9 +155,11 @@ fn drawn(random: &mut Random) -> Vec<u8> {
     trace
 }
 
+/// One in three has stores of several words and orders between their parts.
 fn shape(random: &mut Random) -> Shape {
-    match random.below(2) {
+    match random.below(3) {
         0 => random::small_shape(random),
+        1 => random::torn_shape(random),
         _ => random::any_shape(random),
     }
 }
@@ -340,6 +343,8 @@ struct Counts {
     answers: [u64; 15],
     /// By the finding's number.
     findings: [u64; 9],
+    /// Traces with a pair out of order that one store set on one line, and those pairs.
+    torn: [u64; 2],
     areas: [u64; 5],
 }
 
@@ -349,10 +354,13 @@ impl Counts {
         self.areas[area_case(trace::open(&given.trace).ok().as_ref(), given.area.len())] += 1;
         let number = outcome.refusal().map_or(0, |refusal| refusal.number);
         self.answers[usize::from(number)] += 1;
+        let mut torn = 0;
         for finding in outcome.report().iter().flat_map(|report| &report.findings) {
             self.records += 1;
             self.findings[usize::from(finding.kind.number())] += 1;
+            torn += u64::from(is_torn(finding));
         }
+        add_each(&mut self.torn, &[torn.min(1), torn]);
     }
 
     fn named(&self) -> Vec<(String, u64)> {
@@ -366,6 +374,9 @@ impl Counts {
         named.extend(named_answers(&self.answers));
         let kinds = Kind::ALL.iter().zip(self.findings);
         named.extend(kinds.map(|(kind, count)| (format!("finding {}", kind.name()), count)));
+        let [traces, pairs] = self.torn;
+        named.push(("traces with a torn store out of order".to_string(), traces));
+        named.push(("pairs out of order of a torn store".to_string(), pairs));
         let areas = AREAS.iter().zip(self.areas);
         named.extend(areas.map(|(name, count)| (format!("area {name}"), count)));
         named
@@ -378,8 +389,15 @@ impl AddAssign for Counts {
         self.records += other.records;
         add_each(&mut self.answers, &other.answers);
         add_each(&mut self.findings, &other.findings);
+        add_each(&mut self.torn, &other.torn);
         add_each(&mut self.areas, &other.areas);
     }
+}
+
+/// An out-of-order whose two bytes one store set on one line: the moment is the kept byte's last store.
+fn is_torn(finding: &Finding) -> bool {
+    let one_line = usize::from(finding.lost) / LINE == usize::from(finding.kept) / LINE;
+    finding.kind == Kind::OutOfOrder && finding.moment == finding.store && one_line
 }
 
 pub fn add_each(counts: &mut [u64], others: &[u64]) {
@@ -610,6 +628,7 @@ pub fn command(judges: &[Judge], traces: u64, seed: u64) -> Result<String, Strin
 pub mod tests {
     use super::*;
     use crate::judge::judge;
+    use crate::plain::tests::{judge_from_start, judge_whole};
 
     pub const RIGHT: Judge = Judge {
         name: "right",
@@ -678,6 +697,12 @@ pub mod tests {
         flip(answer, area, |length| length - 1, 0x10)
     });
 
+    /// Take torn stores by another rule, which only a model can tell.
+    const WRONG_WORDS: [Judge; 2] = [
+        wrong("takes a store on one line as whole", judge_whole),
+        wrong("takes words from the store's start", judge_from_start),
+    ];
+
     const fn wrong(name: &'static str, call: fn(&[u8], &mut [u8]) -> Answer) -> Judge {
         Judge { name, call }
     }
@@ -710,7 +735,7 @@ pub mod tests {
 
     #[test]
     fn every_wrong_judge_is_found() {
-        for judge in WRONG.iter().chain([&WRONG_SITE]) {
+        for judge in WRONG.iter().chain([&WRONG_SITE]).chain(&WRONG_WORDS) {
             let found = difference(&[RIGHT, *judge]);
             assert_eq!(found.judge, judge.name);
             let again = difference(&[*judge]);

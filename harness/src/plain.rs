@@ -8,6 +8,8 @@ use std::ops::Range;
 
 /// Bytes of a line.
 pub const LINE: usize = 64;
+/// Bytes of a word, the part of a line in which a store is not torn.
+const WORD: usize = 8;
 /// Lines and bytes of the largest window.
 const LINES: usize = 64;
 const WINDOW: usize = LINES * LINE;
@@ -422,8 +424,9 @@ impl Run {
         Finding::lost(byte, self.event, self.stored[byte])
     }
 
-    /// In one line a byte is lost while another is kept if its store is the later one. In two lines it is
-    /// if it is not yet durable when the other is stored.
+    /// In one word a byte is lost while another is kept if its store is the later one. In two words of one
+    /// line it is also if one store set both. In two lines it is if it is not yet durable when the other is
+    /// stored.
     fn ordered(&self, a: Range<usize>, b: Range<usize>) -> Finding {
         let (stored, durable) = (&self.stored[a.clone()], &self.durable[a.clone()]);
         let mut broken = None;
@@ -433,8 +436,10 @@ impl Run {
                 continue;
             }
             for (lost, (&stored, &durable)) in a.clone().zip(stored.iter().zip(durable)) {
-                let one_line = lost / LINE == kept / LINE;
-                let safe_from = if one_line { stored } else { durable };
+                // Below a word's length in one word, below a line's in one line.
+                let apart = lost ^ kept;
+                let torn = u16::from(apart >= WORD);
+                let safe_from = if apart < LINE { stored + torn } else { durable };
                 if safe_from > moment {
                     broken = Some((lost, kept));
                     break 'pairs;
@@ -449,17 +454,100 @@ impl Run {
 
 #[cfg(test)]
 pub mod tests {
-    use super::judge;
+    use super::*;
     use crate::differential::answer_of;
-    use crate::judge::Answer;
     use reference::area_after;
-    use reference::random::{any_shape, damaged, small_shape, valid, Random};
+    use reference::random::{any_shape, damaged, small_shape, torn_shape, valid, Random};
     use reference::trace::MAX_TRACE;
 
-    /// A trace of a small or of any shape; one in three is damaged.
+    /// Whether two bytes that one store set on one line are kept or lost together, by the address of the
+    /// store.
+    type Together = fn(usize, usize, usize) -> bool;
+
+    /// Judges with the rule that a store on one line is kept or lost whole.
+    pub fn judge_whole(trace: &[u8], area: &mut [u8]) -> Answer {
+        judge_by(trace, area, |_, _, _| true)
+    }
+
+    /// Judges with words that count from the store's start.
+    pub fn judge_from_start(trace: &[u8], area: &mut [u8]) -> Answer {
+        judge_by(trace, area, |start, one, other| {
+            (one - start) / WORD == (other - start) / WORD
+        })
+    }
+
+    /// Judges, with another rule for two bytes that one store set on one line.
+    fn judge_by(trace: &[u8], area: &mut [u8], together: Together) -> Answer {
+        let records = match open(trace, area) {
+            Ok(records) => records,
+            Err(refusal) => return refusal,
+        };
+        let mut run = Run::new(records.lines);
+        let mut starts = [0; WINDOW];
+        records.judge_each(area, |event| match event {
+            Event::Ordered(a, b) => {
+                run.event += 1;
+                ordered_by(&run, a, b, |one, other| together(starts[one], one, other))
+            }
+            event => {
+                if let Event::Store(a) = &event {
+                    starts[a.clone()].fill(a.start);
+                }
+                run.give(event)
+            }
+        })
+    }
+
+    fn ordered_by(
+        run: &Run,
+        a: Range<usize>,
+        b: Range<usize>,
+        together: impl Fn(usize, usize) -> bool,
+    ) -> Finding {
+        for kept in b.filter(|&byte| run.stored[byte] > 0) {
+            let moment = run.stored[kept];
+            let lost = a.clone().find(|&lost| {
+                let store = run.stored[lost];
+                if lost / LINE != kept / LINE {
+                    run.durable[lost] > moment
+                } else {
+                    store > moment || store == moment && !together(lost, kept)
+                }
+            });
+            if let Some(lost) = lost {
+                return Finding::out_of_order(lost, kept, moment, run.stored[lost]);
+            }
+        }
+        Finding::HOLDS
+    }
+
+    /// With words where they are, the loop of the wrong judges is right.
+    #[test]
+    fn only_the_words_of_wrong_judges_are_wrong() {
+        let mut random = Random::new(13);
+        let mut differ = [0; 2];
+        for _ in 0..3_000 {
+            let shape = torn_shape(&mut random);
+            let trace = valid(&mut random, &shape);
+            let given = |judge: &dyn Fn(&[u8], &mut [u8]) -> Answer| {
+                let mut area = vec![0; trace.len()];
+                (judge(&trace, &mut area), area)
+            };
+            let expected = given(&judge);
+            let aligned: Together = |_, one, other| one / WORD == other / WORD;
+            assert!(given(&|trace, area| judge_by(trace, area, aligned)) == expected);
+            differ[0] += u32::from(given(&judge_whole) != expected);
+            differ[1] += u32::from(given(&judge_from_start) != expected);
+        }
+        println!("of 3000 traces {differ:?} judged otherwise");
+        assert!(differ.iter().all(|&count| count > 300), "{differ:?}");
+    }
+
+    /// A trace of a small or of any shape, or with torn stores; one in three is damaged.
     pub fn random_trace(random: &mut Random) -> Vec<u8> {
-        let shape = match random.below(2) {
+        let shape = match random.below(3) {
             0 => small_shape(random),
+            1 => torn_shape(random),
             _ => any_shape(random),
         };
         match random.below(3) {

@@ -8,11 +8,13 @@
 //! - A byte may be lost at the present moment if its last store is younger than the write-back of
 //!   the line's latest closing.
 //! - A byte `b` may be kept and a byte `a` lost, in one line, if `b`'s last store is older than
-//!   `a`'s: the moment is `b`'s last store, when `a`'s piece has not happened.
+//!   `a`'s: the moment is `b`'s last store, when `a`'s piece has not happened. If one store is the
+//!   last of both, they must be in two words: just after that store its piece may be torn. If `b`'s
+//!   last store is younger, `a`'s piece survives whole wherever any word of `b`'s does.
 //! - In two lines, the earliest moment that can keep `b` is `b`'s last store. There `a` may be
 //!   lost if the fence that makes its piece durable comes later, or never.
 
-use crate::event::{Event, Range, Record, LINE, MAX_DEPTH, MAX_EVENTS, MAX_WINDOW};
+use crate::event::{Event, Range, Record, LINE, MAX_DEPTH, MAX_EVENTS, MAX_WINDOW, WORD};
 use crate::finding::{Finding, Kind};
 use crate::interval::Interval;
 use crate::outcome::Totals;
@@ -98,6 +100,13 @@ impl Line {
             return self.newest;
         }
         self.last[part].iter().copied().max().unwrap_or(0)
+    }
+
+    /// Whether a byte of the part that the store was the last to set is in another word than this
+    /// byte of the line.
+    fn in_another_word(&self, part: std::ops::Range<usize>, store: usize, byte: usize) -> bool {
+        let mut set = part.into_iter().filter(|&other| self.last[other] == store);
+        set.any(|other| other / WORD != byte / WORD)
     }
 
     /// The warning that a write-back of the line would get now.
@@ -318,7 +327,7 @@ impl Run {
         if store == 0 {
             false
         } else if lost / LINE == kept / LINE {
-            store > moment
+            store > moment || store == moment && lost / WORD != kept / WORD
         } else {
             self.lines[lost / LINE].fence_for(store) > moment
         }
@@ -327,7 +336,8 @@ impl Run {
     /// The lowest byte of B that an image can keep while a byte of A is lost.
     ///
     /// In each line of A the youngest last store decides, since it is durable last. So all bytes
-    /// of one line of B have the same limit: those stored to before it have a lost partner.
+    /// of one line of B have the same limit: those stored to before it have a lost partner. So has
+    /// one that the youngest last store of A in its own line set, if A has another word of it.
     fn lowest_kept(&self, a: Range, b: Range) -> Option<usize> {
         let youngest = |line: usize| self.lines[line].youngest(part_of(a, line));
         let fences: Vec<(usize, usize)> = a
@@ -340,11 +350,17 @@ impl Run {
             let here = if a.touches(line) { youngest(line) } else { 0 };
             elsewhere.map(|&(_, fence)| fence).fold(here, usize::max)
         };
-        b.lines().find_map(|line| {
-            let limit = limit(line);
-            part_of(b, line)
-                .find(|&byte| (1..limit).contains(&self.lines[line].last[byte]))
-                .map(|byte| line * LINE + byte)
+        b.lines().find_map(|number| {
+            let (limit, line) = (limit(number), &self.lines[number]);
+            let (here, part) = (youngest(number), part_of(a, number));
+            let torn = |byte| {
+                here > 0
+                    && line.last[byte] == here
+                    && line.in_another_word(part.clone(), here, byte)
+            };
+            part_of(b, number)
+                .find(|&byte| (1..limit).contains(&line.last[byte]) || torn(byte))
+                .map(|byte| number * LINE + byte)
         })
     }
 }

@@ -4,6 +4,8 @@ use std::fmt;
 
 /// Bytes in a line.
 pub const LINE: usize = 64;
+/// Bytes in a word: a store may be torn between the words of a line, not inside one.
+pub const WORD: usize = 8;
 /// The largest number of lines in a window.
 pub const MAX_LINES: u16 = 64;
 /// The largest number of bytes in a window.

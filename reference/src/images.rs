@@ -3,8 +3,12 @@
 //!
 //! Everything is read off the list each time it is needed; no state is carried from event to
 //! event. Event numbers start at 1, and moment 0 is before all events.
+//!
+//! An image says of each line how many of its pieces survive whole, and which words are kept of the
+//! oldest one that does not. Lines are independent, so whether an image loses a byte, or keeps one
+//! and loses another, is read off the images of the one or two lines that hold them.
 
-use crate::event::{Event, Range, Record, LINE, MAX_DEPTH, MAX_EVENTS};
+use crate::event::{Event, Range, Record, LINE, MAX_DEPTH, MAX_EVENTS, WORD};
 use crate::finding::{Finding, Kind};
 use crate::interval::Interval;
 use crate::outcome::Totals;
@@ -22,28 +26,84 @@ pub struct History {
 #[derive(Clone, Debug, PartialEq, Eq)]
 struct Image {
     moment: usize,
-    /// For each line concerned, how many of its pieces survive, oldest first.
-    survivors: Vec<usize>,
+    lines: Vec<Left>,
+}
+
+/// What a crash leaves of one line.
+#[derive(Clone, Copy, Debug, PartialEq, Eq)]
+struct Left {
+    line: usize,
+    /// How many of its pieces survive whole, oldest first.
+    survivors: usize,
+    /// The words kept of the oldest piece that does not survive whole; none if every piece does.
+    words: Words,
+}
+
+/// Words of one line, a bit for each; the lowest bit is the word at the line's start.
+type Words = u8;
+
+/// The word that holds a byte.
+fn word_of(address: usize) -> Words {
+    1 << (address % LINE / WORD)
+}
+
+/// Every choice of these words, from none to all of them.
+fn choices_of(words: Words) -> impl Iterator<Item = Words> {
+    // The next number that has no other bits than these.
+    let next = move |chosen: Words| (chosen | !words).wrapping_add(1) & words;
+    std::iter::successors(Some(0), move |&chosen| {
+        (chosen != words).then(|| next(chosen))
+    })
 }
 
 /// A byte with a last store before the assertion.
 #[derive(Clone, Copy, Debug)]
 struct Stored {
     address: usize,
+    /// The word that holds it.
+    word: Words,
     /// The event number of the last store.
     store: usize,
-    /// Which of the lines concerned holds the byte.
-    line: usize,
-    /// How many pieces of that line are older than the piece of the last store.
+    /// How many pieces of its line are older than the piece of the last store.
     older: usize,
 }
 
-impl Image {
-    /// The piece of the byte's last store survives.
-    fn keeps(&self, byte: &Stored) -> bool {
-        byte.older < self.survivors[byte.line]
+impl Stored {
+    fn line(&self) -> usize {
+        self.address / LINE
     }
 }
+
+impl Left {
+    /// The piece of the byte's last store survives, or the part of it in the byte's word.
+    fn keeps(&self, byte: &Stored) -> bool {
+        let in_word = self.words & byte.word != 0;
+        byte.older < self.survivors || byte.older == self.survivors && in_word
+    }
+
+    /// Those of the bytes, all on this line, that are kept.
+    fn kept_of(&self, bytes: &[Stored]) -> Places {
+        let places = bytes.iter().enumerate();
+        places.fold(0, |kept, (at, byte)| {
+            kept | Places::from(self.keeps(byte)) << at
+        })
+    }
+
+    /// Those of the bytes, all on this line, that are not kept.
+    fn lost_of(&self, bytes: &[Stored]) -> Places {
+        !self.kept_of(bytes) & Places::MAX >> (LINE - bytes.len())
+    }
+}
+
+impl Image {
+    fn keeps(&self, byte: &Stored) -> bool {
+        let left = self.lines.iter().find(|left| left.line == byte.line());
+        left.expect("the line is concerned").keeps(byte)
+    }
+}
+
+/// Places in a list of bytes of one line, a bit for each; the lowest bit is the first byte.
+type Places = u64;
 
 impl Way for History {
     fn fresh(lines: u16) -> History {
@@ -244,26 +304,49 @@ impl History {
             && later.any(|(_, event)| event == Event::Fence)
     }
 
-    /// How many pieces of the line may survive at the moment.
+    /// How many pieces of the line may survive whole at the moment.
     fn allowed(&self, line: usize, moment: usize) -> std::ops::RangeInclusive<usize> {
         let must = |&store: &usize| self.must_survive(line, store, moment);
         let least = self.pieces(line, moment).filter(must).count();
         least..=self.pieces(line, moment).count()
     }
 
-    /// Every crash image of the moment, as far as these lines go.
-    fn images(&self, lines: &[usize], moment: usize) -> Vec<Image> {
-        let mut choices = vec![Vec::new()];
-        for &line in lines {
-            let allowed = self.allowed(line, moment);
-            let longer = |choice: &Vec<usize>| -> Vec<Vec<usize>> {
-                let with = |count| [choice.as_slice(), &[count]].concat();
-                allowed.clone().map(with).collect()
-            };
-            choices = choices.iter().flat_map(longer).collect();
-        }
-        let image = |survivors| Image { moment, survivors };
-        choices.into_iter().map(image).collect()
+    /// The words of the line that the store covers, each whole or in part.
+    fn words_of(&self, line: usize, store: usize) -> Words {
+        let Event::Store(a) = self.records[store - 1].event else {
+            panic!("event {store} is no store");
+        };
+        let covered = bytes_of(line).filter(|&byte| a.covers(byte));
+        covered.fold(0, |words, byte| words | word_of(byte))
+    }
+
+    /// How many pieces of the line may survive whole at the moment, and with each number the words
+    /// of the oldest piece that then does not; none if every piece does.
+    fn torn(&self, line: usize, moment: usize) -> impl Iterator<Item = (usize, Words)> + '_ {
+        let pieces: Vec<usize> = self.pieces(line, moment).collect();
+        self.allowed(line, moment).map(move |survivors| {
+            let oldest = pieces.get(survivors);
+            let words = oldest.map_or(0, |&store| self.words_of(line, store));
+            (survivors, words)
+        })
+    }
+
+    /// Everything that a crash at the moment may leave of the line.
+    fn choices(&self, line: usize, moment: usize) -> Vec<Left> {
+        let with_words = |(survivors, words)| {
+            choices_of(words).map(move |words| Left {
+                line,
+                survivors,
+                words,
+            })
+        };
+        self.torn(line, moment).flat_map(with_words).collect()
+    }
+
+    /// Every line of the image is one that a crash at its moment may leave.
+    fn allows(&self, image: &Image) -> bool {
+        let may_be = |left: &Left| self.choices(left.line, image.moment).contains(left);
+        image.lines.iter().all(may_be)
     }
 
     /// The last store of a byte before event `n`.
@@ -274,131 +357,241 @@ impl History {
             .map(|(number, _)| number)
     }
 
-    /// The lines of those bytes that have a last store before event `n`.
-    fn lines_concerned(&self, n: usize, bytes: impl Iterator<Item = usize>) -> Vec<usize> {
-        let stored = bytes.filter(|&byte| self.last_store(byte, n).is_some());
-        let mut lines: Vec<usize> = stored.map(|byte| byte / LINE).collect();
-        lines.sort_unstable();
-        lines.dedup();
-        lines
-    }
-
-    /// Those of the bytes that have a last store before event `n`.
-    fn stored(&self, n: usize, lines: &[usize], bytes: impl Iterator<Item = usize>) -> Vec<Stored> {
-        let with_store = bytes.filter_map(|address| {
-            let store = self.last_store(address, n)?;
-            let line = lines.iter().position(|&line| line == address / LINE)?;
-            let older = self.pieces(lines[line], store - 1).count();
-            Some(Stored {
+    /// Those of the bytes, lowest first, that have a last store before event `n`: a list for each
+    /// line that has some.
+    fn stored(&self, n: usize, bytes: impl Iterator<Item = usize>) -> Vec<Vec<Stored>> {
+        let mut lists: Vec<Vec<Stored>> = Vec::new();
+        for address in bytes {
+            let Some(store) = self.last_store(address, n) else {
+                continue;
+            };
+            let older = self.pieces(address / LINE, store - 1).count();
+            let byte = Stored {
                 address,
+                word: word_of(address),
                 store,
-                line,
                 older,
-            })
-        });
-        with_store.collect()
+            };
+            match lists.last_mut() {
+                Some(list) if list[0].line() == byte.line() => list.push(byte),
+                _ => lists.push(vec![byte]),
+            }
+        }
+        lists
     }
 
     /// A promise that these bytes, lowest first, are durable at event `n`.
     fn durable(&self, n: usize, bytes: &[usize]) -> Finding {
-        let lines = self.lines_concerned(n, bytes.iter().copied());
-        let stored = self.stored(n, &lines, bytes.iter().copied());
-        let images = self.images(&lines, n);
-        let mut broken = vec![false; stored.len()];
-        for image in &images {
-            for (broken, byte) in broken.iter_mut().zip(&stored) {
-                *broken |= !image.keeps(byte);
+        let stored = self.stored(n, bytes.iter().copied());
+        let mut broken = vec![0; stored.len()];
+        for (broken, bytes) in broken.iter_mut().zip(&stored) {
+            for left in self.choices(bytes[0].line(), n) {
+                *broken |= left.lost_of(bytes);
             }
         }
-        let Some(lowest) = broken.iter().position(|&broken| broken) else {
+        let Some((list, place)) = lowest(&broken) else {
             return Finding::of(Kind::Holds);
         };
-        let lost = &stored[lowest];
-        let meant = self.image_meant(&lines, lost, n);
-        assert!(images.contains(&meant), "event {n}: image not allowed");
+        let lost = &stored[list][place];
+        let meant = self.image_meant(&lines_of(&[&stored]), n, lost, None);
+        assert!(self.allows(&meant), "event {n}: image not allowed");
         assert!(!meant.keeps(lost), "event {n}: image keeps the lost byte");
         Finding::lost(lost.address, n, lost.store)
     }
 
     /// A promise that range A is durable before range B, as event `n`.
     fn ordered(&self, n: usize, a: Range, b: Range) -> Finding {
-        let lines = self.lines_concerned(n, a.bytes().chain(b.bytes()));
-        let firsts = self.stored(n, &lines, a.bytes());
-        let seconds = self.stored(n, &lines, b.bytes());
-        // One row for each byte of B, one place in it for each byte of A.
-        let mut broken = vec![vec![false; firsts.len()]; seconds.len()];
-        for moment in 0..=n {
-            for image in self.images(&lines, moment) {
-                mark_broken(&image, &firsts, &seconds, &mut broken);
-            }
-        }
-        let pairs = broken.iter().enumerate();
-        let lowest = pairs.map(|(row, places)| (row, places.iter().position(|&p| p)));
-        let Some((kept, lost)) = lowest.into_iter().find_map(|(row, p)| Some((row, p?))) else {
+        let (firsts, seconds) = (self.stored(n, a.bytes()), self.stored(n, b.bytes()));
+        let partners = self.partners(n, &firsts, &seconds);
+        let kept_bytes = seconds.iter().flatten().zip(&partners);
+        let lowest = kept_bytes.into_iter().find_map(|(kept, lost)| {
+            let (list, place) = lowest(lost)?;
+            Some((kept, &firsts[list][place]))
+        });
+        let Some((kept, lost)) = lowest else {
             return Finding::of(Kind::Holds);
         };
-        let (kept, lost) = (&seconds[kept], &firsts[lost]);
-        let moment = kept.store;
-        let meant = self.image_meant(&lines, lost, moment);
-        let allowed = self.images(&lines, moment).contains(&meant);
-        assert!(moment <= n && allowed, "event {n}: image not allowed");
+        let lines = lines_of(&[&firsts, &seconds]);
+        let meant = self.image_meant(&lines, kept.store, lost, Some(kept));
+        let allowed = meant.moment <= n && self.allows(&meant);
+        assert!(allowed, "event {n}: image not allowed");
         assert!(meant.keeps(kept), "event {n}: image loses the kept byte");
         assert!(!meant.keeps(lost), "event {n}: image keeps the lost byte");
-        Finding::out_of_order(lost.address, kept.address, moment, lost.store)
+        if one_store_set_both(kept, lost) {
+            self.check_words(n, &meant, lost);
+        }
+        Finding::out_of_order(lost.address, kept.address, meant.moment, lost.store)
+    }
+
+    /// For each byte of B its lost partners in each list of A: the bytes that an image of a moment
+    /// up to `n` loses while it keeps that one.
+    fn partners(
+        &self,
+        n: usize,
+        firsts: &[Vec<Stored>],
+        seconds: &[Vec<Stored>],
+    ) -> Vec<Vec<Places>> {
+        let bytes = seconds.iter().map(Vec::len).sum();
+        let mut partners = vec![vec![0; firsts.len()]; bytes];
+        for moment in 0..=n {
+            let mut rows = &mut partners[..];
+            for seconds in seconds {
+                let (rows_of_line, behind) = rows.split_at_mut(seconds.len());
+                rows = behind;
+                for (list, firsts) in firsts.iter().enumerate() {
+                    self.each_image(moment, firsts, seconds, |lost, kept| {
+                        mark_partners(rows_of_line, list, lost, kept);
+                    });
+                }
+            }
+        }
+        partners
+    }
+
+    /// Lists the images of the moment, as far as the line of the first bytes and that of the second
+    /// ones go. Calls `each` with those of the first bytes that the image loses, and those of the
+    /// second ones that it keeps.
+    fn each_image(
+        &self,
+        moment: usize,
+        firsts: &[Stored],
+        seconds: &[Stored],
+        mut each: impl FnMut(Places, Places),
+    ) {
+        let (line, other) = (firsts[0].line(), seconds[0].line());
+        let choices = self.choices(line, moment);
+        if line == other {
+            let one_line = choices.iter();
+            return one_line.for_each(|left| each(left.lost_of(firsts), left.kept_of(seconds)));
+        }
+        let others = self.choices(other, moment);
+        let kept: Vec<Places> = others.iter().map(|left| left.kept_of(seconds)).collect();
+        for left in choices {
+            let lost = left.lost_of(firsts);
+            kept.iter().for_each(|&kept| each(lost, kept));
+        }
     }
 
     /// Every line keeps all its pieces by the moment, but the lost byte's line keeps only those
-    /// older than that byte's last store.
-    fn image_meant(&self, lines: &[usize], lost: &Stored, moment: usize) -> Image {
-        let survivors = lines.iter().enumerate().map(|(at, &line)| {
-            let survives = |store: &usize| at != lost.line || *store < lost.store;
-            self.pieces(line, moment).filter(survives).count()
+    /// older than that byte's last store. Where one store set both bytes on one line, every word
+    /// of it on that line is kept too, except the lost byte's.
+    fn image_meant(
+        &self,
+        lines: &[usize],
+        moment: usize,
+        lost: &Stored,
+        kept: Option<&Stored>,
+    ) -> Image {
+        let torn = kept.is_some_and(|kept| one_store_set_both(kept, lost));
+        let left = lines.iter().map(|&line| {
+            let here = line == lost.line();
+            let survives = |store: &usize| !here || *store < lost.store;
+            let words = if here && torn {
+                self.words_of(line, lost.store) & !lost.word
+            } else {
+                0
+            };
+            Left {
+                line,
+                survivors: self.pieces(line, moment).filter(survives).count(),
+                words,
+            }
         });
         Image {
             moment,
-            survivors: survivors.collect(),
+            lines: left.collect(),
         }
     }
 
-    /// The number of images that judging event `n` lists, and the marks set in each.
+    /// Of the bytes on the lost byte's line that its last store was the last to set, the image
+    /// loses those of its word and keeps the others.
+    fn check_words(&self, n: usize, meant: &Image, lost: &Stored) {
+        let stored = self.stored(n, bytes_of(lost.line()));
+        for byte in stored.iter().flatten().filter(|b| b.store == lost.store) {
+            let as_meant = meant.keeps(byte) == (byte.word != lost.word);
+            assert!(as_meant, "event {n}: byte {} of the image", byte.address);
+        }
+    }
+
+    /// The number of images that judging event `n` lists, times the bytes looked at in each.
     fn effort(&self, n: usize) -> u64 {
         match self.records[n - 1].event {
-            Event::Persisted(a) => {
-                let lines = self.lines_concerned(n, a.bytes());
-                self.image_count(&lines, n)
-                    .saturating_mul(u64::from(a.length))
-            }
-            Event::End => {
-                let lines = self.lines_concerned(n, 0..self.window());
-                let bytes = self.window() as u64;
-                self.image_count(&lines, n).saturating_mul(bytes)
-            }
+            Event::Persisted(a) => self.effort_of_durable(n, a.bytes()),
+            Event::End => self.effort_of_durable(n, 0..self.window()),
             Event::Ordered(a, b) => {
-                let lines = self.lines_concerned(n, a.bytes().chain(b.bytes()));
-                let counts = (0..=n).map(|moment| self.image_count(&lines, moment));
-                let images = counts.fold(0, u64::saturating_add);
-                images.saturating_mul(u64::from(a.length) * u64::from(b.length))
+                let (firsts, seconds) = (self.stored(n, a.bytes()), self.stored(n, b.bytes()));
+                let efforts = (0..=n).map(|m| self.effort_of_pairs(m, &firsts, &seconds));
+                efforts.fold(0, u64::saturating_add)
             }
             _ => 0,
         }
     }
 
-    fn image_count(&self, lines: &[usize], moment: usize) -> u64 {
-        let choices = lines.iter().map(|&line| {
-            let allowed = self.allowed(line, moment);
-            (allowed.end() - allowed.start() + 1) as u64
+    fn effort_of_durable(&self, n: usize, bytes: std::ops::Range<usize>) -> u64 {
+        let stored = self.stored(n, bytes);
+        let efforts = stored.iter().map(|bytes| {
+            let images = self.choice_count(bytes[0].line(), n);
+            images.saturating_mul(bytes.len() as u64)
         });
-        choices.fold(1, u64::saturating_mul)
+        efforts.fold(0, u64::saturating_add)
+    }
+
+    fn effort_of_pairs(&self, m: usize, firsts: &[Vec<Stored>], seconds: &[Vec<Stored>]) -> u64 {
+        let counted = |lists: &[Vec<Stored>]| -> Vec<(usize, u64, u64)> {
+            let of_line = |bytes: &Vec<Stored>| {
+                let line = bytes[0].line();
+                (line, self.choice_count(line, m), bytes.len() as u64)
+            };
+            lists.iter().map(of_line).collect()
+        };
+        let (firsts, seconds) = (counted(firsts), counted(seconds));
+        let pairs = firsts
+            .iter()
+            .flat_map(|first| seconds.iter().map(move |second| (first, second)));
+        let efforts = pairs.map(|(&(line, choices, lost), &(other, others, kept))| {
+            let others = if line == other { 1 } else { others };
+            choices.saturating_mul(others).saturating_mul(lost + kept)
+        });
+        efforts.fold(0, u64::saturating_add)
+    }
+
+    /// The length of the list of choices.
+    fn choice_count(&self, line: usize, moment: usize) -> u64 {
+        let torn = self.torn(line, moment);
+        torn.map(|(_, words)| 1 << words.count_ones()).sum()
     }
 }
 
-fn mark_broken(image: &Image, firsts: &[Stored], seconds: &[Stored], broken: &mut [Vec<bool>]) {
-    for (row, kept) in broken.iter_mut().zip(seconds) {
-        if image.keeps(kept) {
-            for (broken, lost) in row.iter_mut().zip(firsts) {
-                *broken |= !image.keeps(lost);
-            }
-        }
+/// The bytes of a line.
+fn bytes_of(line: usize) -> std::ops::Range<usize> {
+    line * LINE..(line + 1) * LINE
+}
+
+/// The lines of all these bytes, lowest first.
+fn lines_of(lists: &[&[Vec<Stored>]]) -> Vec<usize> {
+    let lists = lists.iter().flat_map(|lists| lists.iter());
+    let mut lines: Vec<usize> = lists.map(|bytes| bytes[0].line()).collect();
+    lines.sort_unstable();
+    lines.dedup();
+    lines
+}
+
+/// The first list with a place, and its lowest place.
+fn lowest(lists: &[Places]) -> Option<(usize, usize)> {
+    let list = lists.iter().position(|&places| places != 0)?;
+    Some((list, lists[list].trailing_zeros() as usize))
+}
+
+/// One store was the last to set both bytes, and they are on one line.
+fn one_store_set_both(one: &Stored, other: &Stored) -> bool {
+    one.store == other.store && one.line() == other.line()
+}
+
+/// Adds the lost bytes of a list of A to the partners of each byte of B that is kept.
+fn mark_partners(rows: &mut [Vec<Places>], list: usize, lost: Places, mut kept: Places) {
+    while lost != 0 && kept != 0 {
+        rows[kept.trailing_zeros() as usize][list] |= lost;
+        kept &= kept - 1;
     }
 }
 
@@ -412,13 +605,14 @@ fn is_write_back_of(event: Event, line: usize) -> bool {
 
 /// The most records of a trace that is judged by images as a matter of course.
 pub const SMALL_RECORDS: usize = 128;
-/// The most marks set, over all images of all assertions, as a matter of course.
-pub const SMALL_EFFORT: u64 = 40_000_000;
+/// The most bytes looked at, over all images of all assertions, as a matter of course.
+pub const SMALL_EFFORT: u64 = 100_000_000;
 
 /// Whether enumerating the images of the trace takes a fraction of a second: at most
-/// [`SMALL_RECORDS`] records, and at most [`SMALL_EFFORT`] marks (for each image of each
-/// assertion, one for each byte of a persisted, for each byte of the window at an end, and for
-/// each pair of an ordered). A trace refused by its trailer is small.
+/// [`SMALL_RECORDS`] records, and at most [`SMALL_EFFORT`] bytes looked at. In each image these are
+/// the bytes with a last store that it is listed for: of a persisted, at an end of the window, and
+/// of both ranges of an ordered, as far as they are on the image's lines. A trace refused by its
+/// trailer is small.
 pub fn small_enough(bytes: &[u8]) -> bool {
     let Ok(body) = trace::open(bytes) else {
         return true;
@@ -443,4 +637,232 @@ pub fn small_enough_events(lines: u16, records: &[Record]) -> bool {
     };
     let efforts = (1..=records.len()).map(|n| history.effort(n));
     efforts.fold(0, u64::saturating_add) <= SMALL_EFFORT
+}
+
+#[cfg(test)]
+mod tests {
+    use super::*;
+    use crate::random::{self, Random};
+    use crate::script::Script;
+
+    /// The history of a script's events, parted by semicolons, in a window of three lines.
+    fn history(events: &str) -> History {
+        let text = format!("lines 3\n{}", events.replace(';', "\n"));
+        let script = Script::parse(&text).expect("the script is good");
+        let mut history = History::fresh(3);
+        for event in &script.events {
+            let record = trace::decode(&event.record, 3).expect("the record is good");
+            history.give(&record).expect("the event is taken");
+        }
+        history
+    }
+
+    /// Every image of the moment, as far as these lines go.
+    fn images_of(history: &History, lines: &[usize], moment: usize) -> Vec<Image> {
+        let mut lists = vec![Vec::new()];
+        for &line in lines {
+            let choices = history.choices(line, moment);
+            let longer = |list: &Vec<Left>| -> Vec<Vec<Left>> {
+                let with = |&left| [list.as_slice(), &[left]].concat();
+                choices.iter().map(with).collect()
+            };
+            lists = lists.iter().flat_map(longer).collect();
+        }
+        let image = |lines| Image { moment, lines };
+        lists.into_iter().map(image).collect()
+    }
+
+    /// The images of one line at a moment, each as its survivors and words.
+    fn images_of_line(events: &str, line: usize, moment: usize) -> Vec<(usize, Words)> {
+        let images = images_of(&history(events), &[line], moment);
+        assert!(images.iter().all(|image| image.moment == moment));
+        let left = images.iter().map(|image| image.lines[0]);
+        left.map(|left| (left.survivors, left.words)).collect()
+    }
+
+    #[test]
+    fn choices_of_words() {
+        assert_eq!(choices_of(0).collect::<Vec<_>>(), [0]);
+        assert_eq!(
+            choices_of(0b1000_0000).collect::<Vec<_>>(),
+            [0, 0b1000_0000]
+        );
+        assert_eq!(
+            choices_of(0b101).collect::<Vec<_>>(),
+            [0, 0b001, 0b100, 0b101]
+        );
+        assert!(choices_of(255).eq(0..=255));
+        for words in 0..=255 {
+            let choices: Vec<Words> = choices_of(words).collect();
+            assert_eq!(choices.len(), 1 << words.count_ones());
+            assert!(choices.iter().all(|chosen| chosen & !words == 0));
+            assert!(choices.is_sorted_by(|one, other| one < other));
+        }
+    }
+
+    #[test]
+    fn images_of_one_store() {
+        let two_words = [(0, 0b00), (0, 0b01), (0, 0b10), (0, 0b11), (1, 0)];
+        assert_eq!(images_of_line("store 0/16", 0, 0), [(0, 0)]);
+        assert_eq!(images_of_line("store 0/16", 0, 1), two_words);
+        assert_eq!(images_of_line("store 4/8", 0, 1), two_words);
+        assert_eq!(images_of_line("store 7/2", 0, 1), two_words);
+        assert_eq!(images_of_line("store 0/8", 0, 1), [(0, 0), (0, 1), (1, 0)]);
+        assert_eq!(images_of_line("store 3/2", 0, 1), [(0, 0), (0, 1), (1, 0)]);
+        // The line that the store does not touch.
+        assert_eq!(images_of_line("store 0/16", 1, 1), [(0, 0)]);
+        assert_eq!(images_of_line("store 4/16", 0, 1).len(), 9);
+        assert_eq!(images_of_line("store 0/64", 0, 1).len(), 257);
+    }
+
+    /// What must survive survives whole.
+    #[test]
+    fn images_after_a_write_back_and_a_fence() {
+        let events = "store 0/16; write-back 0/1; fence; fence";
+        let counts = (0..=4).map(|moment| images_of_line(events, 0, moment).len());
+        assert_eq!(counts.collect::<Vec<_>>(), [1, 5, 5, 1, 1]);
+        assert_eq!(images_of_line(events, 0, 3), [(1, 0)]);
+        let events = "store 0/16; write-back 0/1; store 8/16; fence";
+        assert_eq!(images_of_line(events, 0, 3).len(), 4 + 4 + 1);
+        let second_torn = [(1, 0b000), (1, 0b010), (1, 0b100), (1, 0b110), (2, 0)];
+        assert_eq!(images_of_line(events, 0, 4), second_torn);
+    }
+
+    /// Only the oldest piece that does not survive whole is torn.
+    #[test]
+    fn images_of_two_stores() {
+        let events = "store 0/16; store 16/16";
+        let first_torn = [(0, 0b0000), (0, 0b0001), (0, 0b0010), (0, 0b0011)];
+        let second_torn = [(1, 0b0000), (1, 0b0100), (1, 0b1000), (1, 0b1100)];
+        let all = [&first_torn[..], &second_torn, &[(2, 0)]].concat();
+        assert_eq!(images_of_line(events, 0, 2), all);
+        assert_eq!(images_of_line(events, 0, 1).len(), 5);
+    }
+
+    /// Lines are torn independently of each other.
+    #[test]
+    fn images_of_several_lines() {
+        let across = history("store 60/8");
+        assert_eq!(images_of(&across, &[0], 1).len(), 3);
+        assert_eq!(images_of(&across, &[0, 1], 1).len(), 3 * 3);
+        let across = history("store 52/24");
+        assert_eq!(images_of(&across, &[0, 1], 1).len(), 5 * 5);
+        let three = history("store 60/72");
+        assert_eq!(images_of(&three, &[0, 1, 2], 1).len(), 3 * 257 * 3);
+        let two = history("store 0/16; store 64/24");
+        assert_eq!(images_of(&two, &[0, 1], 1).len(), 5);
+        assert_eq!(images_of(&two, &[0, 1], 2).len(), 5 * 9);
+    }
+
+    /// The bytes kept in each image of a store of two words, one of them in part.
+    #[test]
+    fn bytes_of_images() {
+        let history = history("store 4/12");
+        let stored = history.stored(2, 0..64);
+        let bytes = &stored[0];
+        assert_eq!((bytes[0].address, bytes.len()), (4, 12));
+        let images = images_of(&history, &[0], 1);
+        let lost = images.iter().map(|image| image.lines[0].lost_of(bytes));
+        let (low, high) = (0b0000_0000_1111, 0b1111_1111_0000);
+        let all = low | high;
+        assert_eq!(lost.collect::<Vec<_>>(), [all, high, low, 0, 0]);
+    }
+
+    /// The image meant has the words of the lost store but the lost byte's.
+    #[test]
+    fn image_meant_by_a_pair() {
+        let history = history("store 0/8; store 4/28; store 64/8");
+        let stored = history.stored(4, 0..128);
+        let byte = |address: usize| {
+            let mut bytes = stored.iter().flatten();
+            *bytes.find(|byte| byte.address == address).expect("stored")
+        };
+        let left = |line, survivors, words| Left {
+            line,
+            survivors,
+            words,
+        };
+        let meant = |lost, kept: usize| {
+            let (lost, kept) = (byte(lost), byte(kept));
+            let image = history.image_meant(&[0, 1], kept.store, &lost, Some(&kept));
+            assert!(history.allows(&image));
+            assert!(image.keeps(&kept) && !image.keeps(&lost));
+            (image.moment, image.lines)
+        };
+        // One store, one line: words 0 to 3, the first of them in part.
+        assert_eq!(meant(8, 4), (2, vec![left(0, 1, 0b1101), left(1, 0, 0)]));
+        assert_eq!(meant(7, 31), (2, vec![left(0, 1, 0b1110), left(1, 0, 0)]));
+        // Two stores to one line, and two lines.
+        assert_eq!(meant(4, 0), (1, vec![left(0, 1, 0), left(1, 0, 0)]));
+        assert_eq!(meant(4, 64), (3, vec![left(0, 1, 0), left(1, 1, 0)]));
+        assert_eq!(meant(64, 8), (2, vec![left(0, 2, 0), left(1, 0, 0)]));
+    }
+
+    /// The images of all lines concerned at once break the same pairs as those of one or two lines.
+    #[test]
+    fn lines_of_a_pair_are_enough() {
+        let mut random = Random::new(31);
+        let (mut orders, mut broken) = (0, 0);
+        for _ in 0..4_000 {
+            let shape = random::torn_shape(&mut random);
+            let records = random::events(&mut random, &shape);
+            let mut history = History::fresh(shape.lines);
+            for record in &records {
+                history.give(record).expect("the event is taken");
+            }
+            for (at, record) in records.iter().enumerate() {
+                let Event::Ordered(a, b) = record.event else {
+                    continue;
+                };
+                let n = at + 1;
+                let (firsts, seconds) =
+                    (history.stored(n, a.bytes()), history.stored(n, b.bytes()));
+                let lines = lines_of(&[&firsts, &seconds]);
+                let counts = (0..=n).map(|moment| {
+                    let counts = lines.iter().map(|&l| history.choice_count(l, moment));
+                    counts.product::<u64>()
+                });
+                if lines.len() < 2 || counts.sum::<u64>() > 20_000 {
+                    continue;
+                }
+                let expected = partners_over(&history, n, &firsts, &seconds);
+                let partners = history.partners(n, &firsts, &seconds);
+                assert_eq!(partners, expected, "{records:?}");
+                orders += 1;
+                broken += usize::from(expected.iter().flatten().any(|&places| places != 0));
+            }
+        }
+        println!("{orders} orders over several lines, {broken} of them broken");
+        assert!(orders > 1_500 && broken > 1_000 && broken + 100 < orders);
+    }
+
+    /// The lost partners by the images of all lines concerned.
+    fn partners_over(
+        history: &History,
+        n: usize,
+        firsts: &[Vec<Stored>],
+        seconds: &[Vec<Stored>],
+    ) -> Vec<Vec<Places>> {
+        let lines = lines_of(&[firsts, seconds]);
+        let kept_bytes: Vec<&Stored> = seconds.iter().flatten().collect();
+        let mut partners = vec![vec![0; firsts.len()]; kept_bytes.len()];
+        for moment in 0..=n {
+            for image in images_of(history, &lines, moment) {
+                let lost = |bytes: &Vec<Stored>| {
+                    let places = bytes.iter().enumerate();
+                    places.fold(0, |set, (at, byte)| {
+                        set | u64::from(!image.keeps(byte)) << at
+                    })
+                };
+                let lost: Vec<Places> = firsts.iter().map(lost).collect();
+                for (partners, kept) in partners.iter_mut().zip(&kept_bytes) {
+                    if image.keeps(kept) {
+                        let sets = partners.iter_mut().zip(&lost);
+                        sets.for_each(|(set, lost)| *set |= lost);
+                    }
+                }
+            }
+        }
+        partners
+    }
 }

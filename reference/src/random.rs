@@ -1,6 +1,6 @@
 //! Seeded random traces, valid and damaged.
 
-use crate::event::{Event, Range, Record, LINE, MAX_DEPTH, MAX_LINES};
+use crate::event::{Event, Range, Record, LINE, MAX_DEPTH, MAX_LINES, WORD};
 use crate::trace::{self, RECORD, TRAILER};
 
 /// A generator of 64-bit numbers (SplitMix64): the same seed gives the same numbers.
@@ -45,6 +45,8 @@ pub struct Mix {
     pub transaction: usize,
     pub persisted: usize,
     pub ordered: usize,
+    /// Ordered assertions between two parts of one store.
+    pub within: usize,
 }
 
 impl Mix {
@@ -56,6 +58,7 @@ impl Mix {
         transaction: 3,
         persisted: 3,
         ordered: 4,
+        within: 0,
     };
     /// No transactions.
     pub const PLAIN: Mix = Mix {
@@ -81,6 +84,13 @@ impl Mix {
         transaction: 0,
         ..Mix::EVEN
     };
+    /// Mostly ordered assertions, many of them between two parts of one store.
+    pub const WITHIN: Mix = Mix {
+        transaction: 1,
+        persisted: 1,
+        within: 8,
+        ..Mix::EVEN
+    };
 }
 
 /// The shape of a random trace.
@@ -102,7 +112,7 @@ pub fn events(random: &mut Random, shape: &Shape) -> Vec<Record> {
     let mut records = Vec::with_capacity(shape.events + MAX_DEPTH);
     let mut depth = 0;
     while records.len() < shape.events {
-        let event = event(random, shape, &pool, depth);
+        let event = event(random, shape, &pool, &records, depth);
         match event {
             Event::Begin => depth += 1,
             Event::End => depth -= 1,
@@ -121,7 +131,13 @@ fn with_site(random: &mut Random, event: Event) -> Record {
     Record { event, site }
 }
 
-fn event(random: &mut Random, shape: &Shape, pool: &[Range], depth: usize) -> Event {
+fn event(
+    random: &mut Random,
+    shape: &Shape,
+    pool: &[Range],
+    before: &[Record],
+    depth: usize,
+) -> Event {
     let mix = &shape.mix;
     let weights = [
         mix.store,
@@ -130,6 +146,7 @@ fn event(random: &mut Random, shape: &Shape, pool: &[Range], depth: usize) -> Ev
         mix.transaction,
         mix.persisted,
         mix.ordered,
+        mix.within,
     ];
     let mut left = random.below(weights.iter().sum());
     let kind = weights.iter().position(|&weight| {
@@ -143,8 +160,34 @@ fn event(random: &mut Random, shape: &Shape, pool: &[Range], depth: usize) -> Ev
         2 => Event::Fence,
         3 => transaction_event(random, shape, pool, depth),
         4 => Event::Persisted(pooled(random, shape, pool)),
-        _ => Event::Ordered(pooled(random, shape, pool), pooled(random, shape, pool)),
+        5 => Event::Ordered(pooled(random, shape, pool), pooled(random, shape, pool)),
+        _ => {
+            let whole = stored(random, before).unwrap_or_else(|| pooled(random, shape, pool));
+            Event::Ordered(part(random, whole), part(random, whole))
+        }
     }
+}
+
+/// One of the latest stores, if there is one.
+fn stored(random: &mut Random, before: &[Record]) -> Option<Range> {
+    let stores = before.iter().rev().filter_map(|record| match record.event {
+        Event::Store(a) => Some(a),
+        _ => None,
+    });
+    let latest: Vec<Range> = stores.take(3).collect();
+    (!latest.is_empty()).then(|| random.pick(&latest))
+}
+
+/// A part of the range: one of at most a word's length, or of any.
+fn part(random: &mut Random, range: Range) -> Range {
+    let most = if random.chance(3, 4) {
+        range.length.min(WORD as u16)
+    } else {
+        range.length
+    };
+    let length = 1 + random.below(usize::from(most)) as u16;
+    let places = usize::from(range.length - length) + 1;
+    Range::new(range.address + random.below(places) as u16, length)
 }
 
 fn transaction_event(random: &mut Random, shape: &Shape, pool: &[Range], depth: usize) -> Event {
@@ -355,5 +398,16 @@ pub fn any_shape(random: &mut Random) -> Shape {
         longest: random.pick(&[1, 8, 64, 130, 4096]),
         ranges: random.below(8),
         ..small_shape(random)
+    }
+}
+
+/// A shape for stores of several words, in small windows.
+pub fn torn_shape(random: &mut Random) -> Shape {
+    Shape {
+        lines: 1 + random.below(3) as u16,
+        events: 4 + random.below(21),
+        mix: Mix::WITHIN,
+        longest: random.pick(&[9, 12, 16, 24, 24]),
+        ranges: 2 + random.below(4),
     }
 }

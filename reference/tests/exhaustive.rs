@@ -3,8 +3,8 @@
 
 use reference::direct::Run;
 use reference::images::History;
-use reference::{findings_with, judge, judge_by_images, script, trace, Event, Interval, Kind};
-use reference::{Outcome, Range, Record, Way};
+use reference::{findings_with, judge, judge_by_images, script, trace, Event, Finding, Interval};
+use reference::{Kind, Outcome, Range, Record, Way};
 use std::ops::RangeInclusive;
 use std::sync::Mutex;
 
@@ -62,6 +62,36 @@ const TRANSACTIONS: [Event; 8] = [
     Event::Fence,
 ];
 
+/// Stores of two and three words, aligned and not, on one line and across two, and one inside a
+/// word; orders between their words, inside one and across the lines.
+const TORN: [Event; 13] = [
+    Event::Store(r(40, 16)),
+    Event::Store(r(44, 16)),
+    Event::Store(r(52, 24)),
+    Event::Store(r(50, 3)),
+    Event::WriteBack(r(40, 1)),
+    Event::WriteBack(r(64, 1)),
+    Event::Fence,
+    Event::Persisted(r(40, 36)),
+    Event::Ordered(r(40, 8), r(48, 8)),
+    Event::Ordered(r(48, 8), r(42, 8)),
+    Event::Ordered(r(56, 20), r(48, 16)),
+    Event::Ordered(r(48, 4), r(52, 4)),
+    Event::Ordered(r(44, 24), r(64, 12)),
+];
+
+/// Three words whole, three in part, and two across the lines, for longer histories.
+const WORDS: [Event; 8] = [
+    Event::Store(r(64, 24)),
+    Event::Store(r(68, 10)),
+    Event::Store(r(60, 16)),
+    Event::WriteBack(r(60, 8)),
+    Event::Fence,
+    Event::Ordered(r(60, 28), r(60, 28)),
+    Event::Ordered(r(64, 8), r(72, 16)),
+    Event::Ordered(r(80, 8), r(64, 24)),
+];
+
 /// The events that persist intervals depend on.
 const INTERVALS: [Event; 7] = [
     Event::Store(r(60, 8)),
@@ -81,6 +111,8 @@ struct Tally {
     refused: [usize; 15],
     /// None, open, closed.
     intervals: [usize; 3],
+    /// Pairs out of order that one store set on one line.
+    torn: usize,
 }
 
 impl Tally {
@@ -90,6 +122,7 @@ impl Tally {
             Outcome::Accepted(report) => {
                 for finding in &report.findings {
                     self.kinds[usize::from(finding.kind.number())] += 1;
+                    self.torn += usize::from(is_torn(finding));
                 }
             }
             Outcome::Refused(refusal) => self.refused[usize::from(refusal.number)] += 1,
@@ -112,7 +145,15 @@ impl Tally {
         let intervals = self.intervals.iter_mut().zip(other.intervals);
         let sums = kinds.chain(refused).chain(intervals);
         sums.for_each(|(sum, more)| *sum += more);
+        self.torn += other.torn;
     }
+}
+
+/// The moment is the kept byte's last store.
+fn is_torn(finding: &Finding) -> bool {
+    finding.kind == Kind::OutOfOrder
+        && finding.moment == finding.store
+        && finding.lost / 64 == finding.kept / 64
 }
 
 /// The word with this number among those of one length, behind the events of `front`.
@@ -233,6 +274,24 @@ fn begin_and_six_events() {
     ];
     assert_found(&tally, &kinds);
     assert!(tally.refused[11] > 0 && tally.refused[13] > 0);
+}
+
+#[test]
+fn torn_stores_up_to_five_events() {
+    let tally = compare_all(&[], &TORN, 0..=5);
+    assert_eq!(tally.traces, 1 + 13 + 169 + 2_197 + 28_561 + 371_293);
+    assert_found(&tally, &[Kind::Holds, Kind::Lost, Kind::OutOfOrder]);
+    assert_eq!(tally.refused.iter().sum::<usize>(), 0);
+    assert!(tally.torn > 10_000, "{}", tally.torn);
+}
+
+#[test]
+fn torn_stores_with_six_events() {
+    let tally = compare_all(&[], &WORDS, 6..=6);
+    assert_eq!(tally.traces, 262_144);
+    assert_found(&tally, &[Kind::Holds, Kind::OutOfOrder]);
+    assert_eq!(tally.refused.iter().sum::<usize>(), 0);
+    assert!(tally.torn > 10_000, "{}", tally.torn);
 }
 
 /// A list of each length is compared after its last event, so every list after every event.

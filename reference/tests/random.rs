@@ -1,8 +1,9 @@
 //! The two ways compared on seeded random traces, longer than the exhaustive ones.
 //!
 //! Most have windows of 1 to 4 lines, ranges of at most 16 bytes, 6 to 30 events and the ends
-//! behind them; some have any window, any range and up to 39 events. A trace whose images need
-//! more than `images::SMALL_EFFORT` marks is passed over; the tests count those compared.
+//! behind them; some have any window, any range and up to 39 events; and some have stores of up to
+//! 24 bytes with orders between their parts. A trace with more to look at in its images than
+//! `images::SMALL_EFFORT` is passed over; the tests count those compared.
 //!
 //! Persist intervals are compared for every byte of the window after every event.
 
@@ -35,6 +36,17 @@ fn count_of(outcomes: &[Outcome], kind: Kind) -> usize {
     let reports = outcomes.iter().filter_map(Outcome::report);
     let findings = reports.flat_map(|report| &report.findings);
     findings.filter(|finding| finding.kind == kind).count()
+}
+
+/// Pairs out of order that one store set on one line: the moment is the kept byte's last store.
+fn torn(outcomes: &[Outcome]) -> usize {
+    let reports = outcomes.iter().filter_map(Outcome::report);
+    let findings = reports.flat_map(|report| &report.findings);
+    let torn = findings.filter(|finding| {
+        let one_line = finding.lost / 64 == finding.kept / 64;
+        finding.kind == Kind::OutOfOrder && finding.moment == finding.store && one_line
+    });
+    torn.count()
 }
 
 fn refusals(outcomes: &[Outcome], number: u8) -> usize {
@@ -82,14 +94,30 @@ fn damaged_traces() {
     assert!(accepted > 1_000, "{accepted}");
 }
 
+/// Stores of up to 24 bytes, and orders between two parts of one store.
+#[test]
+fn torn_stores() {
+    let outcomes = compare(8, 20_000, |random| {
+        let shape = random::torn_shape(random);
+        random::valid(random, &shape)
+    });
+    assert!(outcomes.len() > 19_000, "{}", outcomes.len());
+    for kind in [Kind::Holds, Kind::Lost, Kind::OutOfOrder] {
+        assert!(count_of(&outcomes, kind) > 1_000, "few {kind:?}");
+    }
+    let torn = torn(&outcomes);
+    println!("{torn} pairs of one store on one line");
+    assert!(torn > 10_000, "{torn}");
+}
+
 /// Windows of up to 64 lines and ranges of up to 4,096 bytes.
 #[test]
 fn any_window() {
-    let outcomes = compare(4, 6_000, |random| {
+    let outcomes = compare(4, 6_500, |random| {
         let shape = random::any_shape(random);
         random::valid(random, &shape)
     });
-    assert!(outcomes.len() > 3_000, "{}", outcomes.len());
+    assert!(outcomes.len() > 5_423, "{}", outcomes.len());
     for kind in Kind::ALL {
         assert!(count_of(&outcomes, kind) > 100, "few {kind:?}");
     }
@@ -103,6 +131,7 @@ const STORES: Mix = Mix {
     transaction: 0,
     persisted: 0,
     ordered: 0,
+    within: 0,
 };
 
 /// How many intervals were compared, and how many of them were closed.

@@ -1,11 +1,12 @@
 //! The runs of the request, both ways, and the byte layouts.
 
 use reference::check::check;
+use reference::corpus::torn;
 use reference::direct::Run;
 use reference::images::History;
 use reference::script::Script;
 use reference::{area_after, findings_bytes, judge, judge_by_images, listing};
-use reference::{Event, Outcome, Range, Record, Way};
+use reference::{Event, Kind, Outcome, Range, Record, Way};
 
 /// Checks a script whose every event has its `expect`, or which has a `refused` line.
 fn holds(events: &str) {
@@ -112,6 +113,38 @@ fn small_runs_of_ordered() {
     );
     holds("store 60/8; expect none; ordered 60/4 before 64/4; expect out-of-order 60 64 1 1");
     holds("store 0/8; expect none; ordered 0/8 before 0/8; expect holds 0 0 0 0");
+    holds("store 0/16; expect none; ordered 0/8 before 8/8; expect out-of-order 0 8 1 1");
+}
+
+/// The runs of torn stores in the corpus, with the answers that stand beside them.
+#[test]
+fn torn_stores() {
+    let runs = torn::runs();
+    let by_hand = torn::by_hand();
+    assert_eq!((by_hand.len(), runs.len()), (22, 22 + 1 + 81));
+    assert_eq!(by_hand, runs[..22]);
+    let (mut asserted, mut out_of_order) = (Vec::new(), 0);
+    for run in runs {
+        let text = format!("lines {}\n{}", run.lines, run.script.replace(';', "\n"));
+        let script = Script::parse(&text).expect("the script is good");
+        let checked = check(&script);
+        assert_eq!(checked.differences, Vec::<String>::new(), "{text}");
+        // Every two lines of this one would have 257 × 257 images.
+        let too_many = run.name == "window-of-64-itself";
+        assert_eq!(checked.both_ways, !too_many, "{text}");
+        let report = checked.outcome.report().expect("the run is accepted");
+        for (event, finding) in script.events.iter().zip(&report.findings) {
+            let none = finding.kind == Kind::None;
+            assert_eq!(event.expect.is_none(), none, "{text}");
+            out_of_order += usize::from(finding.kind == Kind::OutOfOrder);
+        }
+        asserted.push(checked.compared);
+    }
+    let all: usize = asserted.iter().sum();
+    let by_hand: usize = asserted[..by_hand.len()].iter().sum();
+    println!(
+        "{all} answers of torn stores, {by_hand} of them by hand, {out_of_order} out of order"
+    );
 }
 
 #[test]

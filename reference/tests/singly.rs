@@ -2,9 +2,11 @@
 //! its answers, and random events.
 
 use reference::calls::{self, Answer, Call, Calls, Counts, Sort};
+use reference::corpus::torn;
 use reference::direct::Run;
 use reference::images::{self, History};
 use reference::random::{self, Random, Shape};
+use reference::script::Script;
 use reference::writer::Writer;
 use reference::{singly, Event, Finding, Interval, Kind, Range, Record, Refusal, Totals, Way};
 use std::path::Path;
@@ -360,7 +362,7 @@ fn give_all<W: Way>(lines: u16, events: &[Event]) -> (Answers, Vec<Result<Findin
 fn random_events() {
     let mut random = Random::new(9);
     let (mut lists, mut refused) = (0, [0; 15]);
-    for _ in 0..2_000 {
+    for _ in 0..2_010 {
         let shape = random::small_shape(&mut random);
         let events = any_events(&mut random, &shape);
         let (last, given) = give_all::<Run>(shape.lines, &events);
@@ -377,7 +379,7 @@ fn random_events() {
         }
     }
     println!("{lists} lists compared both ways, refused {refused:?}");
-    assert!(lists > 1_900, "{lists}");
+    assert!(lists >= 2_000, "{lists}");
     for number in [8, 9, 11, 12] {
         assert!(
             refused[number] > 50,
@@ -633,7 +635,7 @@ fn calls_stay_in_their_bounds() {
     assert!((5_000..=12_000).contains(&on_runs), "{on_runs}");
     assert!((2_000..=4_000).contains(&of_writer), "{of_writer}");
     assert!(made.to_bytes().len() <= 180_000);
-    assert!(made.text().len() <= 400_000);
+    assert!(made.text().len() <= 460_000);
     for entry in &made.entries {
         let (first, others) = entry.case.calls.split_first().expect("a run has calls");
         if entry.case.is_of_writer() {
@@ -706,7 +708,7 @@ fn runs_written_by_hand() {
 }
 
 /// The findings of the request's small runs and of its whole run, as the request has them.
-const SMALL: [&str; 15] = [
+const SMALL: [&str; 16] = [
     "persisted 0/128: finding 1 lost 0 kept 0 moment 0 store 0",
     "persisted 0/8: finding 2 lost 0 kept 0 moment 2 store 1",
     "persisted 0/8: finding 2 lost 0 kept 0 moment 3 store 1",
@@ -718,6 +720,7 @@ persisted 0/8: finding 2 lost 0 kept 0 moment 4 store 2",
     "ordered 8/8 before 0/8: finding 3 lost 8 kept 0 moment 1 store 2",
     "ordered 60/4 before 64/4: finding 3 lost 60 kept 64 moment 1 store 1",
     "ordered 0/8 before 0/8: finding 1 lost 0 kept 0 moment 0 store 0",
+    "ordered 0/8 before 8/8: finding 3 lost 0 kept 8 moment 1 store 1",
     "store 0/8: finding 4 lost 0 kept 0 moment 0 store 0
 end: finding 2 lost 0 kept 0 moment 3 store 2",
     "ordered 0/8 before 64/8: finding 3 lost 0 kept 64 moment 2 store 1
@@ -740,6 +743,33 @@ fn small_runs() {
     let found: Vec<String> = small.map(|entry| found_in(&entry.text())).collect();
     for expected in SMALL {
         assert!(found.iter().any(|found| found == expected), "{expected}");
+    }
+}
+
+/// The runs of torn stores, with the answers that stand beside them in the corpus.
+#[test]
+fn torn_stores() {
+    let made = build();
+    let torn = made
+        .entries
+        .iter()
+        .filter(|entry| entry.case.group == "torn");
+    let runs = torn::runs();
+    assert_eq!(torn.clone().count(), runs.len());
+    for (entry, run) in torn.zip(runs) {
+        let text = format!("lines {}\n{}", run.lines, run.script.replace(';', "\n"));
+        let script = Script::parse(&text).expect("the script is good");
+        let (fresh, events) = entry.case.calls.split_first().expect("a run has calls");
+        assert_eq!(*fresh, Call::Fresh(run.lines));
+        assert_eq!(events.len(), script.events.len());
+        for (event, answer) in script.events.iter().zip(&entry.answers[1..]) {
+            let Some(Answer::Finding(finding)) = answer else {
+                panic!("{answer:?}: {text}");
+            };
+            let none = finding.kind == Kind::None;
+            let expected = event.expect.map_or(none, |expect| expect.matches(finding));
+            assert!(expected, "{finding:?}: {text}");
+        }
     }
 }
 

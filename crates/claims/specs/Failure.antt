@@ -7,7 +7,7 @@ use Rattle.event.specs.declared.Range.{Range}
 use Rattle.event.specs.Reply.{Reply}
 use Rattle.history.specs.History.{History}
 use Rattle.history.specs.Interval.{lastStore}
-use Rattle.history.specs.Broken.{KeptIn, meant}
+use Rattle.history.specs.Broken.{KeptIn, meant, meantPair}
 use Rattle.history.specs.Assertion.{Lowest, Shown, BrokenByte, BrokenPair, HasPartner}
 
 -- "holds": kind 1, and no field
@@ -19,7 +19,7 @@ pub record LostAt (now : History) (n : ℕ) (B : ℕ → Type 0) (answer : Reply
   pub lost : ℕ
   pub named : answer ≡ Reply.values (2 ∷ lost ∷ 0 ∷ n ∷ lastStore now lost ∷ [])
   pub lowest : Lowest (BrokenByte now n B) lost
-  pub shown : Shown now n lost
+  pub shown : Shown now (meant now n lost) n lost
 
 -- "out-of-order": the lowest kept byte of b that has a lost partner in a, its lowest lost partner, and the last stores of the two, the
 -- kept byte's as the moment; the image meant is allowed, loses the one and keeps the other
@@ -29,5 +29,5 @@ pub record OutOfOrderAt (now : History) (n : ℕ) (a b : Range) (answer : Reply)
   pub named : answer ≡ Reply.values (3 ∷ lost ∷ kept ∷ lastStore now kept ∷ lastStore now lost ∷ [])
   pub lowestKept : Lowest (HasPartner now n a b) kept
   pub lowestLost : Lowest (BrokenPair now n a b kept) lost
-  pub shown : Shown now (lastStore now kept) lost
-  pub keeps : KeptIn now (meant now (lastStore now kept) lost) kept
+  pub shown : Shown now (meantPair now kept lost) (lastStore now kept) lost
+  pub keeps : KeptIn now (meantPair now kept lost) kept

@@ -11,7 +11,7 @@ use borrow.Author.Tests.{eq-eqb, ne-eqb, leb-true, leb-false, lt-ltb, le-ltb, lt
 use Rattle.event.specs.declared.Range.{Range}
 use Rattle.event.specs.declared.Event.the-variants.{Store, WriteBack, End, Persisted, Ordered}
 use Rattle.event.specs.declared.Finding.the-variants.{None, Unlogged}
-use Rattle.window.specs.Window.{lineOf, lineCount}
+use Rattle.window.specs.Window.{lineOf, wordOf, lineCount}
 use Rattle.history.specs.Found.{Pair, lowest, lowestIn, lowestPair, foundOr, unlogged, clean, writtenTwice, warnedLine, isOpen, atRisk, openedAt, closedBy, breaks, inOrder, findingBy}
 use Rattle.tables.specs.declared.Counts.{Counts}
 use Rattle.tables.specs.declared.Run.{Run}
@@ -44,12 +44,12 @@ opened-at s o zero = refl
 opened-at s o (suc k) = refl
 
 -- the test of a pair, by the entries of the kept and of the lost byte
-broken-test : (ks ok kk ls lo lk : ℕ) (one : Bool) →
-    not (eqb ks 0) && not (eqb ls 0) && cond one (ltb ks ls) (not (closedBy (intervalFrom ls lo lk) (openedAt (intervalFrom ks ok kk)))) ≡
-    isBroken ks ls one ok lk
-broken-test zero ok kk ls lo lk one = refl
-broken-test (suc ks) ok kk zero lo lk one = rw (ne-eqb (suc ks) 0 (λ z. absurd (omega arith)))
-broken-test (suc ks) ok kk (suc ls) lo lk one = rw (opened-at ks ok kk, open-or-later ls lo lk ok)
+broken-test : (ks ok kk ls lo lk : ℕ) (line word : Bool) →
+    not (eqb ks 0) && not (eqb ls 0) && cond line (ltb ks ls || eqb ks ls && not word) (not (closedBy (intervalFrom ls lo lk) (openedAt (intervalFrom ks ok kk)))) ≡
+    isBroken ks ls line word ok lk
+broken-test zero ok kk ls lo lk line word = refl
+broken-test (suc ks) ok kk zero lo lk line word = rw (ne-eqb (suc ks) 0 (λ z. absurd (omega arith)))
+broken-test (suc ks) ok kk (suc ls) lo lk line word = rw (opened-at ks ok kk, open-or-later ls lo lk ok)
 
 module _ (counts : Counts) (logged : List ℕ) (a : Range) where
   -- outside a transaction no store is unlogged
@@ -122,7 +122,7 @@ module _ (run : Run) where
       let same : breaks (ofRun run) ≡ brokenPair (run .stored) (run .opened) (run .closed) =
       fun-ext (λ kept. fun-ext (λ lost.
       broken-test (entry (run .stored) kept) (entry (run .opened) kept) (entry (run .closed) kept)
-      (entry (run .stored) lost) (entry (run .opened) lost) (entry (run .closed) lost) (eqb (lineOf kept) (lineOf lost)))) in
+      (entry (run .stored) lost) (entry (run .opened) lost) (entry (run .closed) lost) (eqb (lineOf kept) (lineOf lost)) (eqb (wordOf kept) (wordOf lost)))) in
       rw same
 
   -- an ordered asks for no other tables

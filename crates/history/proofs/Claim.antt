@@ -3,7 +3,7 @@ use mathlib.Core.Path.{_≡_, refl, sym, ap, subst, subst₂, _∙_}
 use mathlib.Core.Bool.{Bool, true, false, cond, _&&_}
 use mathlib.Core.List.{_∷_}
 use mathlib.Core.Option.{Option, none, some}
-use Prim.Native.Nat.{ℕ, suc, _≤_, _<_}
+use Prim.Native.Nat.{ℕ, suc, _<_}
 use native.Mathlib.Omega.{arith}
 use native.Mathlib.Nat.{le-refl}
 use lib.Dec.{eqb, ltb}
@@ -23,13 +23,12 @@ use Rattle.history.specs.History.{History, is, stores, storesByte}
 use Rattle.history.specs.Interval.{lastStore}
 use Rattle.history.specs.Transaction.{depth, outermost, Since}
 use Rattle.history.specs.View.{ofHistory}
-use Rattle.history.specs.Broken.{PersistedBroken}
+use Rattle.history.specs.Broken.{PersistedBroken, noWord, meant}
 use Rattle.history.specs.Found.{lowest, atRisk, durable, breaks, inOrder, outermostEnd, findingBy, Pair, isOpen}
 use Rattle.history.specs.Assertion.{Shown, BrokenByte, Persists, BrokenPair, Orders}
 use Rattle.history.specs.Claim.{Ended, ClaimOf, Claim}
 use Rattle.history.proofs.Search.{Least, Decides, least, LeastPair, least-pair}
-use Rattle.history.proofs.Image.{Risk, risk-allowed, risk-loses, risk-broken, broken-risk, PairRisk, pair-risk, pair-kept, pair-broken, broken-pair}
-use Rattle.history.proofs.Interval.{last-store-within}
+use Rattle.history.proofs.Image.{risk-allowed, risk-loses, risk-broken, broken-risk, PairRisk, pair-allowed, pair-lost, pair-kept, pair-broken, broken-pair}
 use Rattle.history.proofs.Tests.{open-risk, risk-open, breaks-risk, risk-breaks}
 use Rattle.history.proofs.NoEffect.{NoEffect, last-store-unchanged, interval-unchanged}
 use Rattle.history.proofs.Warning.{warned, since-is, is-since, store-decides, log-decides, back-decides, written-back}
@@ -56,15 +55,17 @@ module _ (lines : ℕ) (h : History) (r : Record) (q : NoEffect (r .event)) wher
   broken-open : (b : ℕ) → PersistedBroken now n b → atRisk (ofHistory lines h) b ≡ true
   broken-open b x = ap isOpen (sym (interval-unchanged r h q b)) ∙ risk-open now b (broken-risk now b n x)
 
-  -- the image meant shows a loss that is possible at moment m
-  shown : (b m : ℕ) → Risk now b m → m ≤ n → Shown now m b
-  shown b m x k = record { allowed = risk-allowed now b m x k; loses = risk-loses now b m x }
+  -- the image meant shows the loss
+  shown : (b : ℕ) → PersistedBroken now n b → Shown now (meant now n b) n b
+  shown b x =
+      let risk = broken-risk now b n x in
+      record { allowed = risk-allowed now noWord n b risk (le-refl n); moment = refl; loses = risk-loses now noWord n b risk refl }
 
   durable-meets : (B : ℕ → Type 0) (o : Option ℕ) → Least (BrokenByte now n B) o → Persists now n B (durable (ofHistory lines h) o)
   durable-meets B none (Least.absent f) = Persists.holds f
   durable-meets B (some b) (Least.present x) =
       subst (λ (s : ℕ). Persists now n B (Lost b n s)) (last-store-unchanged r h q b)
-      (Persists.lost x (shown b n (broken-risk now b n (x .has .broken)) (le-refl n)))
+      (Persists.lost x (shown b (x .has .broken)))
 
   persisted-decides : (a : Range) → Decides (atRisk (ofHistory lines h)) (BrokenByte now n (λ b. covers a b ≡ true)) (a .address) (a .length)
   persisted-decides a =
@@ -92,7 +93,7 @@ module _ (lines : ℕ) (h : History) (r : Record) (q : NoEffect (r .event)) wher
   in-order a b (some p) (LeastPair.present {kept = kept} {lost = lost} x y) =
       let risk : PairRisk now kept lost = broken-pair now (y .has .broken) in
       subst₂ (λ (s t : ℕ). Orders now n a b (OutOfOrder lost kept s t)) (last-store-unchanged r h q kept) (last-store-unchanged r h q lost)
-      (Orders.outOfOrder x y (shown lost (lastStore now kept) (pair-risk now risk) (last-store-within now kept)) (pair-kept now risk))
+      (Orders.outOfOrder x y (record { allowed = pair-allowed now risk; moment = refl; loses = pair-lost now risk }) (pair-kept now risk))
 
   ended-decides : Inside lines h → Decides (λ b. ofHistory lines h .storedSince b && atRisk (ofHistory lines h) b) (BrokenByte now n (λ b. Since h (storesByte b))) 0 (windowBytes lines)
   unfolding lastStore

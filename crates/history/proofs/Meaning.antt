@@ -2,6 +2,7 @@
 pub mod Events
 pub mod Intervals
 pub mod Images
+pub mod Torn
 pub mod Refusals
 pub mod Totals
 pub mod Accepted

@@ -1,15 +1,15 @@
 -- The tests that a finding is computed by say what crash images say.
 use mathlib.Core.Path.{_≡_, refl, sym, _∙_}
-use mathlib.Core.Bool.{Bool, true, cond, not, _&&_}
-use mathlib.Core.Logic.{_≢_}
+use mathlib.Core.Bool.{Bool, true, cond, not, _&&_, _||_}
+use mathlib.Core.Logic.{_≢_, ⊎-elim}
 use Prim.Native.Nat.{ℕ, _≤_}
 use native.Mathlib.Omega.{arith}
 use native.Mathlib.Decide.{decLe, ℕ-discrete as decEq}
 use lib.Dec.{eqb, leb, ltb}
 use lib.ListN.{length}
-use borrow.Author.Tests.{eq-eqb, ne-eqb, leb-true, le-leb, ltb-true, lt-ltb}
-use Rattle.window.specs.Window.{lineOf}
-use Rattle.event.proofs.Bools.{contradiction, fails, not-of, and-left, and-right, both}
+use borrow.Author.Tests.{not-true, eqb-true, eqb-false, eq-eqb, ne-eqb, leb-true, le-leb, ltb-true, lt-ltb}
+use Rattle.window.specs.Window.{lineOf, wordOf}
+use Rattle.event.proofs.Bools.{contradiction, fails, not-of, and-left, and-right, both, or-cases, or-left, or-right}
 use Rattle.history.specs.History.{History, is, fences}
 use Rattle.history.specs.Interval.{epochAt, lastStore, fenceAfter, intervalOf}
 use Rattle.history.specs.View.{ofHistory}
@@ -18,7 +18,7 @@ use Rattle.history.specs.Image.{Forced}
 use Rattle.history.proofs.Count.{count-mono, count-less}
 use Rattle.history.proofs.History.{is-number}
 use Rattle.history.proofs.Interval.{interval-none, interval-open, interval-closed, closing-fence, forced-closes, closes-forced}
-use Rattle.history.proofs.Image.{Risk, PairRisk}
+use Rattle.history.proofs.Image.{Risk, OneLine, PairRisk}
 
 -- a number that is not 0
 pub not-zero : (n : ℕ) → not (eqb n 0) ≡ true → n ≢ 0
@@ -83,10 +83,30 @@ module _ (h : History) where
     forced-closed : Forced h (lineOf lost) (lastStore h lost) (lastStore h kept) → closedBy (intervalOf h lost) (openedAt (intervalOf h kept)) ≡ true
     forced-closed f = closed-test (forced-closes h f .there) ∙ le-leb _ _ (by-fence closing (lastStore h kept) (forced-closes h f .by))
 
+  abbrev torn-test : ℕ → ℕ → Bool
+  torn-test kept lost = eqb (lastStore h kept) (lastStore h lost) && not (eqb (wordOf kept) (wordOf lost))
+
+  abbrev one-line-test : ℕ → ℕ → Bool
+  one-line-test kept lost = ltb (lastStore h kept) (lastStore h lost) || torn-test kept lost
+
+  -- the test of two bytes of one line
+  one-line : (kept lost : ℕ) → one-line-test kept lost ≡ true → OneLine h kept lost
+  one-line kept lost e =
+      ⊎-elim
+      (λ (k : ltb (lastStore h kept) (lastStore h lost) ≡ true). OneLine.older (ltb-true _ _ k))
+      (λ (k : torn-test kept lost ≡ true).
+      OneLine.torn (eqb-true _ _ (and-left (eqb (lastStore h kept) (lastStore h lost)) (not (eqb (wordOf kept) (wordOf lost))) k))
+      (eqb-false _ _ (not-true _ (and-right (eqb (lastStore h kept) (lastStore h lost)) (not (eqb (wordOf kept) (wordOf lost))) k))))
+      (or-cases (ltb (lastStore h kept) (lastStore h lost)) (torn-test kept lost) e)
+
+  line-one : (kept lost : ℕ) → OneLine h kept lost → one-line-test kept lost ≡ true
+  line-one kept lost (OneLine.older k) = or-left (torn-test kept lost) (lt-ltb _ _ k)
+  line-one kept lost (OneLine.torn same word) = or-right (ltb (lastStore h kept) (lastStore h lost)) (both (eq-eqb _ _ same) (not-of (ne-eqb _ _ word)))
+
   abbrev line-test : ℕ → ℕ → Bool
   line-test kept lost =
       cond (eqb (lineOf kept) (lineOf lost))
-      (ltb (lastStore h kept) (lastStore h lost))
+      (one-line-test kept lost)
       (not (closedBy (intervalOf h lost) (openedAt (intervalOf h kept))))
 
   abbrev stored-test : ℕ → Bool
@@ -102,7 +122,7 @@ module _ (h : History) where
       record {
         keptStored = keptStored;
         lostStored = lostStored;
-        together = λ s. ltb-true _ _ (rw (eq-eqb (lineOf kept) (lineOf lost) s) at line);
+        together = λ s. one-line kept lost (rw (eq-eqb (lineOf kept) (lineOf lost) s) at line);
         apart = λ n f. contradiction (rw (ne-eqb (lineOf kept) (lineOf lost) n, forced-closed kept lost keptStored lostStored f) at line) refl;
       }
 
@@ -112,5 +132,5 @@ module _ (h : History) where
       (line (decEq (lineOf kept) (lineOf lost)))
     where
       line : Dec (lineOf kept ≡ lineOf lost) → line-test kept lost ≡ true
-      line (yes s) = rw (eq-eqb (lineOf kept) (lineOf lost) s) (lt-ltb _ _ (x .together s))
+      line (yes s) = rw (eq-eqb (lineOf kept) (lineOf lost) s) (line-one kept lost (x .together s))
       line (no n) = rw (ne-eqb (lineOf kept) (lineOf lost) n) (not-of (fails _ (λ c. x .apart n (closed-forced kept lost (x .keptStored) (x .lostStored) c))))

@@ -8,18 +8,19 @@ use Rattle.event.specs.declared.Finding.the-variants.{Holds, Lost, OutOfOrder}
 use Rattle.window.specs.Window.{covers}
 use Rattle.history.specs.History.{History}
 use Rattle.history.specs.Interval.{lastStore}
-use Rattle.history.specs.Image.{Allowed}
-use Rattle.history.specs.Broken.{KeptIn, LostIn, PersistedBroken, OrderedBroken, meant}
+use Rattle.history.specs.Image.{Image, Allowed}
+use Rattle.history.specs.Broken.{KeptIn, LostIn, PersistedBroken, OrderedBroken, meant, meantPair}
 
 -- x has the property, and none lower has
 pub record Lowest (P : ℕ → Type 0) (x : ℕ) : Type 0 where
   pub has : P x
   pub lower : (y : ℕ) → y < x → P y → ⊥
 
--- the image meant at moment m, with the byte lost, is itself allowed and loses that byte
-pub record Shown (now : History) (m lost : ℕ) : Type 0 where
-  pub allowed : Allowed now (meant now m lost)
-  pub loses : LostIn now (meant now m lost) lost
+-- an image shows a loss at moment m: it is allowed, has that moment, and loses the byte
+pub record Shown (now : History) (i : Image) (m lost : ℕ) : Type 0 where
+  pub allowed : Allowed now i
+  pub moment : i .moment ≡ m
+  pub loses : LostIn now i lost
 
 -- one of the bytes B is broken
 pub record BrokenByte (now : History) (n : ℕ) (B : ℕ → Type 0) (b : ℕ) : Type 0 where
@@ -30,7 +31,7 @@ pub record BrokenByte (now : History) (n : ℕ) (B : ℕ → Type 0) (b : ℕ) :
 -- the moment n and that byte's last store, and the image meant shows it
 pub data Persists (now : History) (n : ℕ) (B : ℕ → Type 0) : Finding → Type 0 where
   holds : ((b : ℕ) → BrokenByte now n B b → ⊥) → Persists now n B Holds
-  lost : {b : ℕ} → Lowest (BrokenByte now n B) b → Shown now n b → Persists now n B (Lost b n (lastStore now b))
+  lost : {b : ℕ} → Lowest (BrokenByte now n B) b → Shown now (meant now n b) n b → Persists now n B (Lost b n (lastStore now b))
 
 -- a pair of a kept byte of b and a lost byte of a is broken
 pub record BrokenPair (now : History) (n : ℕ) (a b : Range) (kept lost : ℕ) : Type 0 where
@@ -48,5 +49,5 @@ HasPartner now n a b kept = (lost : ℕ) × BrokenPair now n a b kept lost
 pub data Orders (now : History) (n : ℕ) (a b : Range) : Finding → Type 0 where
   holds : ((kept lost : ℕ) → BrokenPair now n a b kept lost → ⊥) → Orders now n a b Holds
   outOfOrder : {kept lost : ℕ} → Lowest (HasPartner now n a b) kept → Lowest (BrokenPair now n a b kept) lost →
-      Shown now (lastStore now kept) lost → KeptIn now (meant now (lastStore now kept) lost) kept →
+      Shown now (meantPair now kept lost) (lastStore now kept) lost → KeptIn now (meantPair now kept lost) kept →
       Orders now n a b (OutOfOrder lost kept (lastStore now kept) (lastStore now lost))

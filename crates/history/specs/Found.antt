@@ -10,7 +10,7 @@ use Rattle.event.specs.declared.Finding.{Finding}
 use Rattle.event.specs.declared.Finding.the-variants.{None, Holds, Lost, OutOfOrder, Unlogged, Clean, WrittenTwice, LoggedTwice, Empty}
 use Rattle.event.specs.declared.Interval.{Interval}
 use Rattle.event.specs.declared.Interval.the-variants.{None as NoInterval, Open, Closed}
-use Rattle.window.specs.Window.{windowBytes, lineOf, lineStart, lineCount}
+use Rattle.window.specs.Window.{windowBytes, lineOf, wordOf, lineStart, lineCount}
 use Rattle.history.specs.View.{View}
 
 -- the lowest of the n numbers from x on that passes
@@ -77,13 +77,13 @@ closedBy NoInterval k = false
 closedBy (Open e) k = false
 closedBy (Closed e f) k = leb f k
 
--- a crash may keep the first byte and lose the second. Both were stored to; on one line the kept store is the older, and on
--- two lines the lost byte's interval was not closed by the epoch of the kept store
+-- a crash may keep the first byte and lose the second. Both were stored to; on one line the kept store is the older, or one store set
+-- both in different words; and on two lines the lost byte's interval was not closed by the epoch of the kept store
 abbrev pub breaks : View → ℕ → ℕ → Bool
 breaks v kept lost =
     not (eqb (v .lastStore kept) 0) && not (eqb (v .lastStore lost) 0) &&
     cond (eqb (lineOf kept) (lineOf lost))
-    (ltb (v .lastStore kept) (v .lastStore lost))
+    (ltb (v .lastStore kept) (v .lastStore lost) || eqb (v .lastStore kept) (v .lastStore lost) && not (eqb (wordOf kept) (wordOf lost)))
     (not (closedBy (v .interval lost) (openedAt (v .interval kept))))
 
 -- a kept byte and a lost one

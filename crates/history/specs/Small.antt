@@ -1,4 +1,4 @@
--- The starred small runs of document 01, in two lines. Sites are 0.
+-- The starred small runs of document 01, and that of document 02's request 2, in two lines. Sites are 0.
 use mathlib.Core.List.{List, [], _∷_, map}
 use Prim.Native.Nat.{ℕ}
 use Rattle.event.specs.declared.Range.{Range}
@@ -42,4 +42,5 @@ smallRuns =
     run (Store (60 /· 8) ∷ Ordered (60 /· 4) (64 /· 4) ∷ []) (None ∷ OutOfOrder 60 64 1 1 ∷ []) ∷
     run (Store (0 /· 8) ∷ Ordered (0 /· 8) (0 /· 8) ∷ []) (None ∷ Holds ∷ []) ∷
     run (Begin ∷ Store (0 /· 8) ∷ End ∷ []) (None ∷ Unlogged 0 ∷ Lost 0 3 2 ∷ []) ∷
+    run (Store (0 /· 16) ∷ Ordered (0 /· 8) (8 /· 8) ∷ []) (None ∷ OutOfOrder 0 8 1 1 ∷ []) ∷  -- torn
     []

@@ -14,47 +14,59 @@ pub enum PairSearch {
     At { kept: u16, lost: u16 },
 }
 
-// Whether a crash may keep one byte and lose another. There is no branch, so that several bytes can be looked at at once.
-fn is_broken(kept_store: u16, lost_store: u16, one_line: bool, opened: u16, closed: u16) -> bool
-    ensures { λ r. ⌜ r ≡ isBroken «kept_store» «lost_store» «one_line» opened closed ⌝ }
-{
-    let later = kept_store < lost_store; // a later store is no 0
-    let open = (lost_store != 0) & ((closed == 0) | (opened < closed));
-    (kept_store != 0) & ((one_line & later) | (!one_line & open))
-}
-
-// Whether a crash may lose byte b and keep a byte of this line, with this last store and opening epoch.
-fn may_lose(
-    stored: &[u16; 4096],
-    closed: &[u16; 4096],
+// What is asked of a byte that a crash may keep: its last store, the epoch at which its interval opened, its line and its word.
+struct Kept {
     store: u16,
     opened: u16,
     line: u16,
-    b: usize,
+    word: u16,
+}
+
+// Whether a crash may keep one byte and lose another. There is no branch, so that several bytes can be looked at at once.
+fn is_broken(
+    kept_store: u16,
+    lost_store: u16,
+    one_line: bool,
+    one_word: bool,
+    opened: u16,
+    closed: u16,
 ) -> bool
-    requires { ⌜ b < 4096 ⌝ }
-    ensures { λ r. ⌜ r ≡ lostWith (now (stored .entry)) (now (closed .entry)) store opened line b ⌝ }
+    ensures { λ r. ⌜ r ≡ isBroken «kept_store» «lost_store» «one_line» «one_word» opened closed ⌝ }
 {
-    is_broken(store, stored[b], line == (b as u16) / 64, opened, closed[b])
+    // With a kept store that is no 0 neither of these passes at a lost one that is.
+    let later = kept_store < lost_store;
+    let torn = (kept_store == lost_store) & !one_word;
+    let open = (lost_store != 0) & ((closed == 0) | (opened < closed));
+    (kept_store != 0) & ((one_line & (later | torn)) | (!one_line & open))
+}
+
+// Whether a crash may lose byte b and keep this one.
+fn may_lose(stored: &[u16; 4096], closed: &[u16; 4096], kept: Kept, b: usize) -> bool
+    requires { ⌜ b < 4096 ⌝ }
+    ensures { λ r. ⌜ r ≡ lostWith (now (stored .entry)) (now (closed .entry)) kept b ⌝ }
+{
+    let lost = b as u16;
+    let one_line = kept.line == lost / 64;
+    let one_word = kept.word == lost / 8;
+    is_broken(
+        kept.store,
+        stored[b],
+        one_line,
+        one_word,
+        kept.opened,
+        closed[b],
+    )
 }
 
 // Whether it may lose one of the n bytes from `at` on.
-fn any_lost(
-    stored: &[u16; 4096],
-    closed: &[u16; 4096],
-    store: u16,
-    opened: u16,
-    line: u16,
-    at: usize,
-    n: usize,
-) -> bool
+fn any_lost(stored: &[u16; 4096], closed: &[u16; 4096], kept: Kept, at: usize, n: usize) -> bool
     requires { ⌜ at + n ≤ 4096 ⌝ }
-    ensures { λ r. ⌜ r ≡ isFound (lowest (lostWith (now (stored .entry)) (now (closed .entry)) store opened line) at n) ⌝ }
+    ensures { λ r. ⌜ r ≡ isFound (lowest (lostWith (now (stored .entry)) (now (closed .entry)) kept) at n) ⌝ }
 {
     let mut found = false;
     let mut i = 0;
     while i < n {
-        found = found | may_lose(stored, closed, store, opened, line, at + i);
+        found = found | may_lose(stored, closed, kept, at + i);
         i += 1;
     }
     found
@@ -62,22 +74,14 @@ fn any_lost(
 
 // The n bytes from `at` on are looked at in groups of eight: the start of the first group of which it may lose a byte, or the place after
 // the last whole group.
-fn skip_lost(
-    stored: &[u16; 4096],
-    closed: &[u16; 4096],
-    store: u16,
-    opened: u16,
-    line: u16,
-    at: usize,
-    n: usize,
-) -> usize
+fn skip_lost(stored: &[u16; 4096], closed: &[u16; 4096], kept: Kept, at: usize, n: usize) -> usize
     requires { ⌜ at + n ≤ 4096 ⌝ }
-    ensures { λ r. ⌜ r ≡ skipped (lostWith (now (stored .entry)) (now (closed .entry)) store opened line) at (n / 8) ⌝ }
+    ensures { λ r. ⌜ r ≡ skipped (lostWith (now (stored .entry)) (now (closed .entry)) kept) at (n / 8) ⌝ }
 {
     let end = at + n;
     let mut b = at;
     while b + 8 <= end {
-        if any_lost(stored, closed, store, opened, line, b, 8) {
+        if any_lost(stored, closed, kept, b, 8) {
             return b;
         }
         b += 8;
@@ -115,12 +119,18 @@ fn first_broken(
         let store = stored[kept];
         if store != 0 {
             let epoch = opened[kept];
-            let line = (kept as u16) / 64;
-            let mut lost = skip_lost(stored, closed, store, epoch, line, at, n);
+            let byte = kept as u16;
+            let asked = Kept {
+                store: store,
+                opened: epoch,
+                line: byte / 64,
+                word: byte / 8,
+            };
+            let mut lost = skip_lost(stored, closed, asked, at, n);
             while lost < lost_end {
-                if may_lose(stored, closed, store, epoch, line, lost) {
+                if may_lose(stored, closed, asked, lost) {
                     found = PairSearch::At {
-                        kept: kept as u16,
+                        kept: byte,
                         lost: lost as u16,
                     };
                     break 'kept;

@@ -1,4 +1,4 @@
--- The window: its size, its lines, what a range covers and which lines it touches, and the limits 4, 8 and 9.
+-- The window: its size, its lines and words, what a range covers and which lines it touches, and the limits 4, 8 and 9.
 use mathlib.Core.Bool.{Bool, false, cond, not, _&&_, _||_}
 use mathlib.Core.List.{List, [], _∷_}
 use Prim.Native.Nat.{ℕ, _+_, _*_, _/_, _-_}
@@ -24,6 +24,14 @@ windowBytes lines = lines * lineBytes
 -- the line that holds a byte
 abbrev pub lineOf : ℕ → ℕ
 lineOf byte = byte / lineBytes
+
+-- a word has 8 bytes, and starts at an address divisible by 8
+abbrev pub wordBytes : ℕ
+wordBytes = 8
+
+-- the word that holds a byte
+abbrev pub wordOf : ℕ → ℕ
+wordOf byte = byte / wordBytes
 
 -- the start address of each line of the largest window, and 0 beyond it
 abbrev pub lineStart : ℕ → ℕ

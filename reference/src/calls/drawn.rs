@@ -7,6 +7,8 @@ use crate::random::{self, Mix, Random, Shape};
 
 const SEED: u64 = 201;
 const RUNS: usize = 150;
+const TORN_SEED: u64 = 202;
+const TORN_RUNS: usize = 30;
 /// Windows beside those of 1, 2, 63 and 64 lines.
 const OTHER: [u16; 8] = [3, 4, 5, 8, 16, 31, 32, 62];
 /// Windows that are refused; the low bytes of some would be taken.
@@ -19,6 +21,7 @@ const CLOSING: Mix = Mix {
     transaction: 1,
     persisted: 1,
     ordered: 1,
+    within: 0,
 };
 const MOST_EVENTS: usize = 60;
 /// How many of the latest ranges are asked for.
@@ -40,6 +43,26 @@ pub(super) fn cases() -> Vec<Case> {
         });
     }
     cases
+}
+
+/// Runs of stores of several words, and of orders between their parts.
+pub(super) fn torn_cases() -> Vec<Case> {
+    let mut random = Random::new(TORN_SEED);
+    let run = |_| {
+        let shape = random::torn_shape(&mut random);
+        let mut calls = vec![Call::Fresh(shape.lines)];
+        calls.extend(
+            random::events(&mut random, &shape)
+                .into_iter()
+                .map(Call::Give),
+        );
+        calls.push(Call::Close);
+        Case {
+            group: "torn random",
+            calls,
+        }
+    };
+    (0..TORN_RUNS).map(run).collect()
 }
 
 /// Events for a window of so many lines, with some that may be refused among them.

@@ -72,6 +72,7 @@ impl Calls {
     pub fn build() -> Result<Calls, String> {
         let mut cases = written::cases();
         cases.extend(drawn::cases());
+        cases.extend(drawn::torn_cases());
         cases.extend(writer_written::cases());
         cases.extend(writer_drawn::cases());
         let entries = cases.into_iter().map(entry).collect::<Result<_, _>>()?;

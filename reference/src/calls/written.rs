@@ -1,8 +1,9 @@
-//! Calls written by hand: at the limits, the request's small runs, persist intervals, and runs of
-//! many events. Calls are parted by semicolons, and the site of an event is its place in the run.
+//! Calls written by hand: at the limits, the request's small runs, persist intervals, runs of many
+//! events, and torn stores. Calls are parted by semicolons, and the site of an event is its place in the run.
 
 use super::{Call, Case};
 use crate::corpus::runs::{SMALL, WHOLE};
+use crate::corpus::torn;
 use std::collections::BTreeSet;
 
 pub(super) fn cases() -> Vec<Case> {
@@ -14,6 +15,7 @@ pub(super) fn cases() -> Vec<Case> {
     add("small", small());
     add("intervals", INTERVALS.map(String::from).to_vec());
     add("long", long());
+    add("torn", torn());
     cases
 }
 
@@ -168,3 +170,11 @@ const EPOCHS: &str = "fresh 1; fences 255; store 0/8; fence; ask 0; write-back 0
 /// Behind eight begins: the last event is taken with every transaction open.
 const NESTED: &str = "fences 65525; store 64/8; persisted 64/8; begin; end; log 0/8; log 0/0;
     log 128/1; ask 63; ask 64; ask 128; close";
+
+// Torn stores.
+
+fn torn() -> Vec<String> {
+    let runs = torn::runs().into_iter();
+    runs.map(|run| format!("fresh {}; {}", run.lines, run.events()))
+        .collect()
+}

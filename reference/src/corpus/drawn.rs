@@ -15,6 +15,7 @@ pub(super) fn add(cases: &mut Cases) {
     damaged(cases);
     areas(cases);
     long(cases);
+    torn(cases);
 }
 
 fn small(cases: &mut Cases) {
@@ -103,6 +104,7 @@ fn long(cases: &mut Cases) {
             transaction: 0,
             persisted: 1,
             ordered: 1,
+            within: 0,
         },
         longest: 300,
         ranges: 0,
@@ -153,4 +155,14 @@ fn last_refused(cases: &mut Cases, mut records: Vec<Record>) {
     cases.add("length/65537", too_long);
     records[MOST - 1].event = Event::End;
     cases.add("long/refused-last", trace::write(64, &[], &records));
+}
+
+/// Stores of several words, and orders between their parts.
+fn torn(cases: &mut Cases) {
+    let mut random = Random::new(107);
+    for number in 0..40 {
+        let shape = random::torn_shape(&mut random);
+        let trace = random::valid(&mut random, &shape);
+        cases.add(&format!("random/torn-{number}"), trace);
+    }
 }

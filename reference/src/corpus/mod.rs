@@ -6,6 +6,7 @@ mod drawn;
 mod layout;
 mod refused;
 pub(crate) mod runs;
+pub mod torn;
 
 use crate::check::check;
 use crate::finding::Kind;
@@ -133,6 +134,7 @@ impl Corpus {
 fn own_cases() -> Vec<Case> {
     let mut cases = Cases::default();
     runs::add(&mut cases);
+    torn::add(&mut cases);
     refused::add(&mut cases);
     layout::add(&mut cases);
     drawn::add(&mut cases);

@@ -23,7 +23,7 @@ pub(super) fn add(cases: &mut Cases) {
 }
 
 /// The small runs of the request, and some more of that size; two lines.
-pub(crate) const SMALL: [(&str, &str); 15] = [
+pub(crate) const SMALL: [(&str, &str); 16] = [
     ("persisted-fresh", "persisted 0/128"),
     ("stored", "store 0/8; persisted 0/8"),
     ("written-back", "store 0/8; write-back 0/8; persisted 0/8"),
@@ -51,6 +51,7 @@ pub(crate) const SMALL: [(&str, &str); 15] = [
     ("fence-only", "fence"),
     ("write-back-fresh", "write-back 0/128"),
     ("begin-end", "begin; end"),
+    ("torn", "store 0/16; ordered 0/8 before 8/8"),
 ];
 
 fn small(cases: &mut Cases) {

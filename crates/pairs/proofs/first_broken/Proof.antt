@@ -17,10 +17,10 @@ use Rattle.pairs.proofs.first_broken.Statement.{statement}
 use Rattle.pairs.proofs.first_broken.Tie as tie
 
 abbrev Inv-loop : tie.InvT-loop
-Inv-loop stored opened closed at n start m found₀ kept kept-end lost-end store epoch line lost₀ found lost = (lost ≤ lost-end) × (found ≡ found₀) × (left (brokenPair stored opened closed kept) lost-end lost ≡ lowest (brokenPair stored opened closed kept) at n)
+Inv-loop stored opened closed at n start m found₀ kept kept-end lost-end store epoch byte asked lost₀ found lost = (lost ≤ lost-end) × (found ≡ found₀) × (left (brokenPair stored opened closed kept) lost-end lost ≡ lowest (brokenPair stored opened closed kept) at n)
 
 abbrev μ-loop : tie.MeasureT-loop
-μ-loop stored opened closed at n start m found₀ kept kept-end lost-end store epoch line lost₀ found lost = lost-end - lost
+μ-loop stored opened closed at n start m found₀ kept kept-end lost-end store epoch byte asked lost₀ found lost = lost-end - lost
 
 abbrev Inv-kept : tie.InvT-kept
 Inv-kept stored opened closed at n start m found₀ kept₀ kept-end lost-end found kept = let p = brokenPair stored opened closed in let a : Range = record { address = at; length = n } in (kept₀ ≤ kept) × (kept ≤ kept-end) × (found ≡ found₀) × (leftPair p a kept-end kept ≡ leftPair p a kept-end kept₀)
@@ -53,8 +53,8 @@ mul-epoch c = omega arith
 element-copy-out-epoch : tie.Need-element-copy-out-epoch Inv-loop μ-loop Inv-kept μ-kept
 element-copy-out-epoch c = omega arith
 
-cast-line : tie.Need-cast-line Inv-loop μ-loop Inv-kept μ-kept
-cast-line c = omega arith
+cast-byte : tie.Need-cast-byte Inv-loop μ-loop Inv-kept μ-kept
+cast-byte c = omega arith
 
 skip-lost-requires : tie.Need-skip-lost-requires Inv-loop μ-loop Inv-kept μ-kept
 skip-lost-requires c κs = omega arith
@@ -65,11 +65,8 @@ loop-holds c = let skip = c .skip-lost .ensures in (skip-inside _ _ _ skip, refl
 may-lose-requires : tie.Need-may-lose-requires Inv-loop μ-loop Inv-kept μ-kept
 may-lose-requires c κs = omega arith
 
-cast-t27 : tie.Need-cast-t27 Inv-loop μ-loop Inv-kept μ-kept
-cast-t27 c = omega arith
-
-cast-t28 : tie.Need-cast-t28 Inv-loop μ-loop Inv-kept μ-kept
-cast-t28 c = omega arith
+cast-t29 : tie.Need-cast-t29 Inv-loop μ-loop Inv-kept μ-kept
+cast-t29 c = omega arith
 
 add-lost : tie.Need-add-lost Inv-loop μ-loop Inv-kept μ-kept
 add-lost c = omega arith
@@ -124,12 +121,11 @@ first-broken-spec =
     element-copy-out-store
     mul-epoch
     element-copy-out-epoch
-    cast-line
+    cast-byte
     skip-lost-requires
     loop-holds
     may-lose-requires
-    cast-t27
-    cast-t28
+    cast-t29
     add-lost
     loop-less
     loop-again
