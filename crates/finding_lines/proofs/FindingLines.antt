@@ -2,11 +2,10 @@
 use mathlib.Core.Path.{_≡_}
 use mathlib.Core.Bool.{Bool, true, false}
 use mathlib.Core.List.{List, []}
-use Prim.Native.Nat.{ℕ, suc, _+_, _-_, _*_, _≤_, _<_}
+use Prim.Native.Nat.{ℕ, suc, _+_, _-_, _≤_, _<_}
 use native.Mathlib.Omega.{arith}
 use lib.ListN.{List·getD-eq-default}
 use Rattle.event.specs.declared.Fields.{Fields}
-use Rattle.codec.specs.Codec.{u16At, fieldsAt, findingSize}
 use Rattle.text.specs.Text.{Out, put}
 use Rattle.finding_lines.specs.Lines.{names, nameOf, isPrinted, columns, findingLine}
 use Rattle.finding_lines.specs.Area.{lineAt, linesFrom}
@@ -39,8 +38,3 @@ module _ (area : List ℕ) (i count : ℕ) (o : Out) where
   pub lines-done : count ≤ i → put (linesFrom i (count - i) area) o ≡ o
   unfolding put linesFrom
   lines-done k = let none : count - i ≡ 0 = omega arith in rw none
-
-  -- as the code reads it
-  pub line-read : {f : Fields} {site : ℕ} {p : Out} → f ≡ fieldsAt area (findingSize * i) → site ≡ u16At area (findingSize * i + 10) →
-      p ≡ put (findingLine (i + 1) site f) o → p ≡ put (lineAt i area) o
-  line-read e s k = let next : suc i ≡ i + 1 = omega arith in rw (next, ← e, ← s) k

@@ -5,7 +5,15 @@ ghost use Prim.Native.Nat.{_≤_};
 ghost use Rattle.text.specs.Text.{out, put};
 ghost use Rattle.finding_lines.specs.Lines.{nameOf, isPrinted, values, columns, findingLine};
 ghost use Rattle.finding_lines.specs.Lines.{field as Lines·field};
+ghost use Rattle.finding_lines.specs.Rows.{rowAt};
 ghost use Rattle.finding_lines.specs.Area.{linesFrom};
+
+// A finding of an area, with its event's number and site.
+pub struct Row {
+    pub event: u32,
+    pub site: u16,
+    pub fields: Fields,
+}
 
 // The name of a warning; a number past the kinds has none.
 fn warning_name(text: &mut [u8], at: usize, kind: u8) -> usize
@@ -36,7 +44,7 @@ pub fn name(text: &mut [u8], at: usize, kind: u8) -> usize
 }
 
 // Whether findings of this kind are printed.
-fn is_printed(kind: u8) -> bool
+pub fn is_printed(kind: u8) -> bool
     ensures { λ r. ⌜ r ≡ isPrinted kind ⌝ }
 {
     1 <= kind && kind <= 8
@@ -61,11 +69,12 @@ fn put_values(text: &mut [u8], at: usize, f: Fields) -> usize
 }
 
 // The columns of a finding that is printed.
-fn put_columns(text: &mut [u8], at: usize, event: u16, site: u16, f: Fields) -> usize
-    ensures { λ r. ⌜ out (now (text .exit)) r ≡ put (columns event site f) (out (now (text .entry)) at) ⌝ }
+fn put_columns(text: &mut [u8], at: usize, row: Row) -> usize
+    ensures { λ r. ⌜ out (now (text .exit)) r ≡ put (columns (row .event) (row .site) (row .fields)) (out (now (text .entry)) at) ⌝ }
 {
-    let a = text::number(text, at, event as u32);
-    let b = field(text, a, site);
+    let f = row.fields;
+    let a = text::number(text, at, row.event);
+    let b = field(text, a, row.site);
     let c = text::put(text, b, b" ");
     let d = name(text, c, f.kind);
     let e = put_values(text, d, f);
@@ -73,13 +82,26 @@ fn put_columns(text: &mut [u8], at: usize, event: u16, site: u16, f: Fields) -> 
 }
 
 // `5 14 out-of-order 0 64 2 1`, or nothing for the finding none.
-pub fn finding(text: &mut [u8], at: usize, event: u16, site: u16, f: Fields) -> usize
-    ensures { λ r. ⌜ out (now (text .exit)) r ≡ put (findingLine event site f) (out (now (text .entry)) at) ⌝ }
+pub fn finding(text: &mut [u8], at: usize, row: Row) -> usize
+    ensures { λ r. ⌜ out (now (text .exit)) r ≡ put (findingLine (row .event) (row .site) (row .fields)) (out (now (text .entry)) at) ⌝ }
 {
+    let f = row.fields;
     if is_printed(f.kind) {
-        return put_columns(text, at, event, site, f);
+        return put_columns(text, at, row);
     }
     at
+}
+
+// The finding of an area that has so many before it.
+pub fn row_at(area: &[u8], before: u16) -> Row
+    ensures { λ r. ⌜ r ≡ rowAt before (now (area .entry)) ⌝ }
+{
+    let place = 12 * (before as u32);
+    Row {
+        event: (before as u32) + 1,
+        site: codec::u16_at(area, (place as usize) + 10),
+        fields: codec::fields_at(area, place),
+    }
 }
 
 // The first findings of an area, so many of them, with the event numbers from 1 on.
@@ -89,11 +111,9 @@ pub fn findings(text: &mut [u8], at: usize, area: &[u8], count: u16) -> usize
     let mut next = at;
     let mut i: u16 = 0;
     while i < count {
-        let place = 12 * (i as u32);
-        let f = codec::fields_at(area, place);
-        let site = codec::u16_at(area, (place as usize) + 10);
+        let row = row_at(area, i);
+        next = finding(text, next, row);
         i += 1;
-        next = finding(text, next, i, site, f);
     }
     next
 }

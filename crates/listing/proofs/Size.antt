@@ -2,9 +2,9 @@
 use mathlib.Core.Path.{_≡_, refl, sym, ap, _∙_}
 use mathlib.Core.Bool.{Bool, true, false, cond}
 use mathlib.Core.List.{List, [], _∷_, _++_}
-use Prim.Native.Nat.{ℕ, zero, suc, _+_, _*_, _≤_, max}
+use Prim.Native.Nat.{ℕ, suc, _+_, _*_, _≤_}
 use native.Mathlib.Omega.{arith}
-use lib.ListN.{length, take, drop, getD, length-append, length-take}
+use lib.ListN.{length, take, drop, length-append, length-take}
 use Rattle.event.specs.declared.Record.{Record}
 use Rattle.event.specs.declared.Fields.{Fields}
 use Rattle.event.specs.declared.Answer.{Answer}
@@ -17,25 +17,12 @@ use Rattle.trace.specs.Records.{linesIn, eventsIn}
 use Rattle.verdict.specs.Verdict.{traceCheck, historyOf, answersOf, verdictFor, verdictOf, verdictReply}
 use Rattle.text.specs.Text.{Out, out, put}
 use Rattle.lines.specs.Lines.{headLine, footLine, refusalLine}
-use Rattle.finding_lines.specs.Lines.{names, nameOf, isPrinted, field, values, columns, findingLine}
+use Rattle.finding_lines.specs.Lines.{isPrinted, field, values, columns, findingLine}
 use Rattle.listing.specs.Report.{findingLines, reportFor, reportOf}
 use Rattle.text.proofs.Decimal.{decimal-length}
 use Rattle.text.proofs.Filled.{whole}
+use Rattle.finding_lines.proofs.Names.{name-size}
 use Rattle.listing.proofs.Area.{events-few}
-
--- the size of the longest of some texts
-abbrev longest : List (List ℕ) → ℕ
-longest [] = 0
-longest (s ∷ rest) = max (length s) (longest rest)
-
-not-longer : (texts : List (List ℕ)) (i : ℕ) → length (getD texts i []) ≤ longest texts
-not-longer [] i = omega arith
-not-longer (s ∷ rest) zero = omega arith
-not-longer (s ∷ rest) (suc i) = omega (arith, not-longer rest i)
-
--- no name has more than 13 bytes
-name-size : (kind : ℕ) → length (nameOf kind) ≤ 13
-name-size kind = not-longer names kind
 
 -- head, foot and refusal: words and two numbers or one
 head-size : (events lines : ℕ) → length (headLine events lines) ≤ 41

@@ -17,14 +17,14 @@ same-length c = search needs
 returns : tie.Need-returns
 returns c =
     let i = c .before .before .before .before in
-    let k = i .before .before .before .args in
-    printed (k .event) (k .site) (k .f) (i .before .is-printed .ensures) (out (k .text .now) (k .at)) (i .if1 .taken)
+    let k = i .before .before .before .before .args in
+    printed (k .row .event) (k .row .site) (k .row .fields) (i .before .is-printed .ensures) (out (k .text .now) (k .at)) (i .if1 .taken)
     (c .before .before .put-columns .ensures)
 
 returns-2 : tie.Need-returns-2
 returns-2 c =
-    let k = c .before .before .before .args in
-    not-printed (k .event) (k .site) (k .f) (c .before .is-printed .ensures) (out (k .text .now) (k .at)) (c .if1 .left)
+    let k = c .before .before .before .before .args in
+    not-printed (k .row .event) (k .row .site) (k .row .fields) (c .before .is-printed .ensures) (out (k .text .now) (k .at)) (c .if1 .left)
 
 pub finding-spec : {M : Type 1} → statement M
 finding-spec =

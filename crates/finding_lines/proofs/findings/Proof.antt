@@ -6,8 +6,9 @@ use native.Mathlib.Omega.{arith}
 use lib.ListN.{length}
 use borrow.Author.Needs.{needs}
 use Rattle.text.specs.Text.{out, put}
-use Rattle.finding_lines.specs.Area.{linesFrom}
-use Rattle.finding_lines.proofs.FindingLines.{lines-next, lines-done, line-read}
+use Rattle.finding_lines.specs.declared.Row.{Row}
+use Rattle.finding_lines.specs.Area.{lineOf, linesFrom}
+use Rattle.finding_lines.proofs.FindingLines.{lines-next, lines-done}
 use Rattle.finding_lines.proofs.findings.Statement.{statement}
 use Rattle.finding_lines.proofs.findings.Tie as tie
 
@@ -21,23 +22,8 @@ abbrev μ-loop : tie.MeasureT-loop
 loop-holds : tie.Need-loop-holds Inv-loop μ-loop
 loop-holds c = (omega arith, refl, rw (sub-zero (c .before .before .args .count)))
 
-cast-place : tie.Need-cast-place Inv-loop μ-loop
-cast-place c = search needs
-
-mul-place : tie.Need-mul-place Inv-loop μ-loop
-mul-place c = search needs
-
-fields-at-requires : tie.Need-fields-at-requires Inv-loop μ-loop
-fields-at-requires c κs = search needs
-
-cast-u16-at : tie.Need-cast-u16-at Inv-loop μ-loop
-cast-u16-at c = search needs
-
-add-u16-at : tie.Need-add-u16-at Inv-loop μ-loop
-add-u16-at c = search needs
-
-u16-at-requires : tie.Need-u16-at-requires Inv-loop μ-loop
-u16-at-requires c κs = search needs
+row-at-requires : tie.Need-row-at-requires Inv-loop μ-loop
+row-at-requires c κs = search needs
 
 add-i : tie.Need-add-i Inv-loop μ-loop
 add-i c = search needs
@@ -52,11 +38,11 @@ loop-again : tie.Need-loop-again Inv-loop μ-loop
 loop-again c =
     let w = c .before .before in
     let u = w .before .before in
-    let l = u .before .before .before in
+    let l = u .before .before in
     let k = l .before .before .before .args in
     let i = l .loop .i in
     let o = out (l .loop .text) (l .loop .next) in
-    let line = line-read (k .area .now) i (k .count) o (u .before .fields-at .ensures) (u .u16-at .ensures) (w .finding .ensures) in (
+    let line = w .finding .ensures ∙ ap (λ (row : Row). put (lineOf row) o) (u .row-at .ensures) in (
       omega arith,
       w .finding .kept .0 ∙ l .loop .inv .1,
       ap (put (linesFrom (i + 1) (k .count - (i + 1)) (k .area .now))) line ∙ sym (lines-next (k .area .now) i (k .count) o (omega arith)) ∙ l .loop .inv .2,
@@ -78,14 +64,9 @@ findings-spec =
     Inv-loop
     μ-loop
     loop-holds
-    cast-place
-    mul-place
-    fields-at-requires
-    cast-u16-at
-    add-u16-at
-    u16-at-requires
-    add-i
+    row-at-requires
     finding-requires
+    add-i
     loop-less
     loop-again
     same-length

@@ -42,8 +42,8 @@ returns c =
     let third = fourth .before .before .before .before in
     let second = third .before .before .before .before .before in
     let first = second .before .before .before .before in
-    let k = first .before .before .before .args in
-    six (decimal (k .event)) (field (k .site)) (ascii " ") (nameOf (k .f .kind)) (values (k .f)) (ascii "\n") (out (k .text .now) (k .at))
+    let k = first .before .before .before .before .args in
+    six (decimal (k .row .event)) (field (k .row .site)) (ascii " ") (nameOf (k .row .fields .kind)) (values (k .row .fields)) (ascii "\n") (out (k .text .now) (k .at))
     (first .number .ensures) (second .field .ensures) (third .put .ensures) (fourth .name .ensures) (fifth .put-values .ensures) (sixth .put2 .ensures)
 
 pub put-columns-spec : {M : Type 1} → statement M
