@@ -1,18 +1,14 @@
 -- The area and the preamble are within their spaces.
-use mathlib.Core.Path.{_≡_, sym}
+use mathlib.Core.Path.{_≡_}
 use mathlib.Core.Bool.{Bool, true, false, cond}
 use mathlib.Core.List.{List}
 use Prim.Native.Nat.{ℕ, min, _≤_}
 use native.Mathlib.Omega.{arith}
 use lib.Dec.{eqb}
-use lib.ListN.{length, getD, take, replicate, length-replicate}
+use lib.ListN.{length, getD, take}
 use Rattle.io.specs.Counts.{Counts}
 use Rattle.io.proofs.Counting.{counts}
 use Rattle.writer_calls.specs.Writing.{sizeIn, roomAfter, freeAfter}
-
--- the length of a fresh space
-pub zeros : (n : ℕ) → n ≡ length (replicate {A = ℕ} n 0)
-zeros n = sym (length-replicate {A = ℕ} n 0)
 
 -- a part of a space is within any other that is as long
 pub part-within : {n : ℕ} (whole space : List ℕ) → Counts n whole → length whole ≡ length space → length (take n whole) ≤ length space

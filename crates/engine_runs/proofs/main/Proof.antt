@@ -1,7 +1,7 @@
 -- `engine_runs::main` meets its contract: its arrays have the lengths that their types say.
 -- Assumes nothing.
 use mathlib.Core.Path.{refl}
-use Rattle.engine_runs.proofs.Within.{zeros}
+use Rattle.stdio.proofs.Buffers.{zeros}
 use Rattle.engine_runs.proofs.main.Statement.{statement}
 use Rattle.engine_runs.proofs.main.Tie as tie
 

@@ -1,6 +1,6 @@
 -- `vectors::entry` meets its contract: the buffers have the lengths that their types say. Assumes nothing.
 use mathlib.Core.Path.{refl}
-use Rattle.vectors.proofs.Part.{zeros}
+use Rattle.stdio.proofs.Buffers.{zeros}
 use Rattle.vectors.proofs.entry.Statement.{statement}
 use Rattle.vectors.proofs.entry.Tie as tie
 

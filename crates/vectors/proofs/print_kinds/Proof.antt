@@ -4,7 +4,7 @@ use Prim.Native.Nat.{_≤_, _-_}
 use lib.ListN.{replicate}
 use borrow.Author.Needs.{needs}
 use Rattle.finding_lines.specs.Lines.{nameOf}
-use Rattle.vectors.proofs.Part.{counts-put}
+use Rattle.stdio.proofs.Buffers.{counts-put}
 use Rattle.vectors.proofs.print_kinds.Statement.{statement}
 use Rattle.vectors.proofs.print_kinds.Tie as tie
 

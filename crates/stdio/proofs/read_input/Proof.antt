@@ -1,4 +1,4 @@
--- `pmjudge::read_input` meets its contract. The loop's invariant: the buffer keeps its length, and no more bytes came than it has. The
+-- `stdio::read_input` meets its contract. The loop's invariant: the buffer keeps its length, and no more bytes came than it has. The
 -- measure is the room that is left. Assumes nothing.
 use mathlib.Core.Path.{_≡_, _∙_}
 use mathlib.Core.List.{List}
@@ -8,8 +8,8 @@ use lib.ListN.{length, take, drop, length-drop}
 use lib.Seq.{length-take-le}
 use borrow.Author.Needs.{needs}
 use Rattle.io.proofs.Counting.{counts}
-use Rattle.pmjudge.proofs.read_input.Statement.{statement}
-use Rattle.pmjudge.proofs.read_input.Tie as tie
+use Rattle.stdio.proofs.read_input.Statement.{statement}
+use Rattle.stdio.proofs.read_input.Tie as tie
 
 abbrev Inv-loop : tie.InvT-loop
 Inv-loop buf₀ done₀ failed₀ buf done failed = (length buf ≡ length buf₀) × (done ≤ length buf)
