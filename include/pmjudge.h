@@ -1,5 +1,6 @@
 /*
- * The judge of persistent-memory traces, and the writer of traces, for programs in C and C++.
+ * The judge of persistent-memory traces, the writer of traces, and the layout of findings for print,
+ * for programs in C and C++.
  * README.md says what a trace and a finding are. `rt staticlib pmjudge_c` builds the library,
  * target/staticlib/libpmjudge_c.a.
  *
@@ -33,24 +34,32 @@ extern "C" {
 /* The most transactions open at once. */
 #define PMJUDGE_MOST_DEPTH 8
 
+/* Pages for print: findings on a page, bytes of a line, the most findings, the most bytes. */
+#define PMJUDGE_PAGE_FINDINGS 58
+#define PMJUDGE_PAGE_LINE_SIZE 62
+#define PMJUDGE_MOST_FINDINGS 65535
+#define PMJUDGE_MOST_PAGE_BYTES 4203290
+
 /* Why a call is refused: the first number of every answer. */
 enum pmjudge_refusal {
     PMJUDGE_ACCEPTED = 0,
-    PMJUDGE_TRACE_TOO_SHORT = 1,     /* a trace under 16 bytes */
-    PMJUDGE_TRACE_TOO_LONG = 2,      /* a trace over 65,536 bytes, counting a trailer to come */
-    PMJUDGE_MARK_DIFFERS = 3,        /* a trailer without the mark */
-    PMJUDGE_BAD_LINES = 4,           /* lines outside 1 to 64, or the trailer's zero field set */
-    PMJUDGE_LENGTH_DIFFERS = 5,      /* offset + 12 * count + 16 is not the length */
-    PMJUDGE_UNKNOWN_KIND = 6,        /* a kind of event that is not 1 to 8 */
-    PMJUDGE_FIELD_SET = 7,           /* a zero byte, or a field that the kind lacks, is set */
-    PMJUDGE_EMPTY_RANGE = 8,         /* a range of length 0 */
-    PMJUDGE_PAST_WINDOW = 9,         /* a range past the window */
-    PMJUDGE_EVENTS_EXHAUSTED = 10,   /* more than 65,535 events; no trace is that long */
-    PMJUDGE_NO_TRANSACTION = 11,     /* a log or an end outside a transaction */
-    PMJUDGE_TOO_DEEP = 12,           /* a ninth begin inside eight */
-    PMJUDGE_TRANSACTION_OPEN = 13,   /* a transaction that is still open at the end */
-    PMJUDGE_AREA_TOO_SHORT = 14,     /* a findings area under 12 bytes for each record */
-    PMJUDGE_FILE_AREA_TOO_SHORT = 15 /* a writer's area without room for what a call puts there */
+    PMJUDGE_TRACE_TOO_SHORT = 1,      /* a trace under 16 bytes */
+    PMJUDGE_TRACE_TOO_LONG = 2,       /* a trace over 65,536 bytes, counting a trailer to come */
+    PMJUDGE_MARK_DIFFERS = 3,         /* a trailer without the mark */
+    PMJUDGE_BAD_LINES = 4,            /* lines outside 1 to 64, or the trailer's zero field set */
+    PMJUDGE_LENGTH_DIFFERS = 5,       /* offset + 12 * count + 16 is not the length; bytes that are
+                                         no findings */
+    PMJUDGE_UNKNOWN_KIND = 6,         /* a kind of event that is not 1 to 8, of finding over 8 */
+    PMJUDGE_FIELD_SET = 7,            /* a zero byte, or a field that the kind lacks, is set */
+    PMJUDGE_EMPTY_RANGE = 8,          /* a range of length 0 */
+    PMJUDGE_PAST_WINDOW = 9,          /* a range past the window */
+    PMJUDGE_EVENTS_EXHAUSTED = 10,    /* more than 65,535 events; no trace is that long */
+    PMJUDGE_NO_TRANSACTION = 11,      /* a log or an end outside a transaction */
+    PMJUDGE_TOO_DEEP = 12,            /* a ninth begin inside eight */
+    PMJUDGE_TRANSACTION_OPEN = 13,    /* a transaction that is still open at the end */
+    PMJUDGE_AREA_TOO_SHORT = 14,      /* a findings area under 12 bytes for each record */
+    PMJUDGE_FILE_AREA_TOO_SHORT = 15, /* a writer's area without room for what a call puts there */
+    PMJUDGE_PAGE_AREA_TOO_SHORT = 16  /* a page area shorter than the pages */
 };
 
 /* The kinds of event, with the ranges that each has. */
@@ -139,6 +148,27 @@ void pmjudge_writer_event(uint8_t *area, size_t area_length, uint32_t writer[4],
  */
 void pmjudge_writer_close(uint8_t *area, size_t area_length, const uint32_t writer[4],
                           uint32_t answer[2]);
+
+/*
+ * Lays out findings on pages for print, in a page area. The findings are those of a findings area,
+ * PMJUDGE_FINDING_SIZE bytes each: the first 12 * events bytes of an area that pmjudge_judge left,
+ * or such bytes from a file. Shown are the findings other than PMJUDGE_NONE, in event order; an
+ * event's number is its finding's position, from 1.
+ *
+ * answer[0] is the refusal, PMJUDGE_ACCEPTED if there is none, and answer[1] the position of the
+ * finding refused: from 1, and 0 if no finding is meant. answer[2] is the length written, 0 if the
+ * call is refused. It is refused by the first number that applies: 5, a length that is no multiple
+ * of 12, or more than 65,535 findings; then finding by finding 6, a kind over 8, and 7, a zero byte
+ * that is set; then 16, a page area shorter than the pages.
+ *
+ * The pages have PMJUDGE_PAGE_LINE_SIZE * (2 * pages + shown) bytes: each page has a heading, a line
+ * for each of PMJUDGE_PAGE_FINDINGS findings, the last page fewer, and a foot. Where nothing is
+ * shown there is one page. A page area of PMJUDGE_MOST_PAGE_BYTES has room for the pages of every
+ * findings area. They are put at its start; its other bytes stay as they were, and all of them do
+ * if the call is refused.
+ */
+void pmjudge_pages(const uint8_t *findings, size_t findings_length, uint8_t *area,
+                   size_t area_length, uint32_t answer[3]);
 
 #ifdef __cplusplus
 }

@@ -1,6 +1,6 @@
 /*
  * The calls of include/pmjudge.h: every refusal by its name, that a refused call changes nothing,
- * closing again, and every finding by its name. Prints what fails, and the counts.
+ * closing again, every finding by its name, and pages of findings. Prints what fails and the counts.
  */
 #include <stdio.h>
 #include <string.h>
@@ -10,7 +10,9 @@
 #define AREA (PMJUDGE_MOST_BYTES + 16)
 
 static uint8_t preamble[AREA], area[AREA], area_before[AREA], findings[PMJUDGE_MOST_BYTES];
-static uint32_t writer[4], writer_before[4], answer[2], verdict[5];
+static uint8_t pages[PMJUDGE_MOST_PAGE_BYTES + 16], pages_before[PMJUDGE_MOST_PAGE_BYTES + 16];
+static uint8_t stored[PMJUDGE_FINDING_SIZE * (PMJUDGE_MOST_FINDINGS + 1)];
+static uint32_t writer[4], writer_before[4], answer[2], verdict[5], paged[3];
 static int passed, failed;
 
 static void expect(int line, int holds)
@@ -19,8 +21,9 @@ static void expect(int line, int holds)
         passed++;
     } else {
         failed++;
-        printf("failed: scripts/test-tracer.c:%d: answer %lu %lu\n", line, (unsigned long)answer[0],
-               (unsigned long)answer[1]);
+        printf("failed: scripts/test-tracer.c:%d: answer %lu %lu, of pages %lu %lu %lu\n", line,
+               (unsigned long)answer[0], (unsigned long)answer[1], (unsigned long)paged[0],
+               (unsigned long)paged[1], (unsigned long)paged[2]);
     }
 }
 
@@ -238,6 +241,117 @@ static void kinds_of_finding(void)
         EXPECT(findings[at * PMJUDGE_FINDING_SIZE] == (uint8_t)given[at].finding);
 }
 
+/* Lays out stored findings in a page area of so many bytes. */
+static void lay_out(size_t stored_length, size_t pages_length)
+{
+    memcpy(pages_before, pages, sizeof pages);
+    memset(paged, 0xa5, sizeof paged);
+    pmjudge_pages(stored, stored_length, pages, pages_length, paged);
+}
+
+/* Whether the pages were written with this length, and the bytes beyond did not change. */
+static int written(size_t length)
+{
+    return paged[0] == PMJUDGE_ACCEPTED && paged[1] == 0 && paged[2] == length &&
+           memcmp(pages + length, pages_before + length, sizeof pages - length) == 0;
+}
+
+/* Whether the last layout was refused by this number at this position, and changed nothing. */
+static int unpaged(enum pmjudge_refusal number, uint32_t position)
+{
+    return paged[0] == (uint32_t)number && paged[1] == position && paged[2] == 0 &&
+           memcmp(pages, pages_before, sizeof pages) == 0;
+}
+
+static const char heading[] = " event       site  finding          lost   kept moment  store\n";
+static const char lost_row[] = "     2          7  lost                0      0      2      1\n";
+static const char last_row[] = " 65535      65535  out-of-order    65535  65535  65535  65535\n";
+
+/* Whether the line with this number, from 0, is this text, with blanks after a shorter one. */
+static int line_is(size_t line, const char *text)
+{
+    char padded[PMJUDGE_PAGE_LINE_SIZE + 1];
+    if (strlen(text) == PMJUDGE_PAGE_LINE_SIZE)
+        memcpy(padded, text, sizeof padded);
+    else
+        sprintf(padded, "%-61s\n", text);
+    return memcmp(pages + line * PMJUDGE_PAGE_LINE_SIZE, padded, PMJUDGE_PAGE_LINE_SIZE) == 0;
+}
+
+/* The pages of the findings that a judge left, with room for every byte and with one byte too few. */
+static void pages_of_a_trace(void)
+{
+    size_t length = 3 * PMJUDGE_PAGE_LINE_SIZE;
+    start(AREA, 0, 1);
+    event(PMJUDGE_STORE, 0, 8);
+    event(PMJUDGE_PERSISTED, 0, 8);
+    end_file(AREA);
+    EXPECT(judged(answer[1], sizeof findings, PMJUDGE_ACCEPTED, 0) && verdict[2] == 2);
+    memcpy(stored, findings, verdict[2] * PMJUDGE_FINDING_SIZE);
+    lay_out(verdict[2] * PMJUDGE_FINDING_SIZE, length - 1);
+    EXPECT(unpaged(PMJUDGE_PAGE_AREA_TOO_SHORT, 0));
+    lay_out(verdict[2] * PMJUDGE_FINDING_SIZE, length);
+    EXPECT(written(length));
+    EXPECT(line_is(0, heading) && line_is(1, lost_row) && line_is(2, "page 1 of 1"));
+    lay_out(verdict[2] * PMJUDGE_FINDING_SIZE, sizeof pages);
+    EXPECT(written(length));
+}
+
+/* An area without a finding, and one without a finding that is shown: one page. */
+static void pages_of_nothing(void)
+{
+    size_t length = 2 * PMJUDGE_PAGE_LINE_SIZE;
+    lay_out(0, length - 1);
+    EXPECT(unpaged(PMJUDGE_PAGE_AREA_TOO_SHORT, 0));
+    lay_out(0, length);
+    EXPECT(written(length) && line_is(0, heading) && line_is(1, "page 1 of 1"));
+    memset(stored, 0, sizeof stored);
+    lay_out(PMJUDGE_FINDING_SIZE * PMJUDGE_MOST_FINDINGS, length);
+    EXPECT(written(length) && line_is(0, heading) && line_is(1, "page 1 of 1"));
+}
+
+/* The most findings, each with the largest numbers: the pages are the longest. */
+static void longest_pages(void)
+{
+    size_t length = PMJUDGE_MOST_PAGE_BYTES, at;
+    size_t lines = length / PMJUDGE_PAGE_LINE_SIZE;
+    memset(stored, 0xff, sizeof stored);
+    for (at = 0; at <= PMJUDGE_MOST_FINDINGS; at++) {
+        stored[at * PMJUDGE_FINDING_SIZE] = PMJUDGE_OUT_OF_ORDER;
+        stored[at * PMJUDGE_FINDING_SIZE + 1] = 0;
+    }
+    lay_out(PMJUDGE_FINDING_SIZE * PMJUDGE_MOST_FINDINGS, length - 1);
+    EXPECT(unpaged(PMJUDGE_PAGE_AREA_TOO_SHORT, 0));
+    lay_out(PMJUDGE_FINDING_SIZE * PMJUDGE_MOST_FINDINGS, length);
+    EXPECT(written(length));
+    EXPECT(line_is(PMJUDGE_PAGE_FINDINGS + 1, "page 1 of 1130"));
+    EXPECT(line_is(PMJUDGE_PAGE_FINDINGS + 2, heading) && line_is(lines - 2, last_row));
+    EXPECT(line_is(lines - 1, "page 1130 of 1130"));
+    lay_out(sizeof stored, sizeof pages);
+    EXPECT(unpaged(PMJUDGE_LENGTH_DIFFERS, 0));
+}
+
+/* Damaged findings: the first one, its kind before its zero byte, and before a short page area. */
+static void damaged_findings(void)
+{
+    memset(stored, 0, 3 * PMJUDGE_FINDING_SIZE);
+    lay_out(3 * PMJUDGE_FINDING_SIZE - 1, 0);
+    EXPECT(unpaged(PMJUDGE_LENGTH_DIFFERS, 0));
+    lay_out(3 * PMJUDGE_FINDING_SIZE + 1, sizeof pages);
+    EXPECT(unpaged(PMJUDGE_LENGTH_DIFFERS, 0));
+    stored[2 * PMJUDGE_FINDING_SIZE] = PMJUDGE_EMPTY + 1;
+    lay_out(3 * PMJUDGE_FINDING_SIZE, 0);
+    EXPECT(unpaged(PMJUDGE_UNKNOWN_KIND, 3));
+    stored[PMJUDGE_FINDING_SIZE + 1] = 1;
+    lay_out(3 * PMJUDGE_FINDING_SIZE, sizeof pages);
+    EXPECT(unpaged(PMJUDGE_FIELD_SET, 2));
+    stored[PMJUDGE_FINDING_SIZE] = 255;
+    lay_out(3 * PMJUDGE_FINDING_SIZE, sizeof pages);
+    EXPECT(unpaged(PMJUDGE_UNKNOWN_KIND, 2));
+    lay_out(PMJUDGE_FINDING_SIZE, sizeof pages);
+    EXPECT(written(2 * PMJUDGE_PAGE_LINE_SIZE));
+}
+
 int main(void)
 {
     size_t at;
@@ -251,6 +365,11 @@ int main(void)
     longest();
     changed_bytes();
     kinds_of_finding();
+    memset(pages, 0x5a, sizeof pages);
+    pages_of_a_trace();
+    pages_of_nothing();
+    longest_pages();
+    damaged_findings();
     printf("%d passed, %d failed\n", passed, failed);
     return failed != 0;
 }

@@ -13,8 +13,11 @@ pub const SAMPLES: u64 = 100;
 /// A sample repeats the call for at least this long.
 pub const SAMPLE: Duration = Duration::from_millis(5);
 
+/// A call that is timed: from an input into an area.
+pub type Call<A> = fn(&[u8], &mut [u8]) -> A;
+
 /// A checker: judges a trace into a findings area.
-pub type Checker = fn(&[u8], &mut [u8]) -> Answer;
+pub type Checker = Call<Answer>;
 
 /// The checkers in the order of the table.
 pub const CHECKERS: [(&str, Checker); 3] = [
@@ -46,7 +49,8 @@ pub fn measured() -> Result<Vec<Row>, String> {
         .map(|workload| &workload.trace[..])
         .collect();
     let checkers = CHECKERS.map(|(_, checker)| checker);
-    for (row, best) in rows.iter_mut().zip(best_times(checkers, &traces)) {
+    let times = best_times(checkers, &traces, longest(&traces));
+    for (row, best) in rows.iter_mut().zip(times) {
         row.ns_an_event = best.map(|ns| ns / row.records as f64);
     }
     Ok(rows)
@@ -78,17 +82,26 @@ fn compared(workload: &Workload) -> Result<Row, String> {
     })
 }
 
-/// The best time of each checker on each trace, in ns. The samples of all of them take turns, so that
-/// other work on the machine meets all alike.
-pub fn best_times<const N: usize>(checkers: [Checker; N], traces: &[&[u8]]) -> Vec<[f64; N]> {
-    let longest = traces.iter().map(|trace| trace.len()).max();
-    let mut area = vec![0; longest.unwrap_or(0)];
-    let mut best = vec![[f64::INFINITY; N]; traces.len()];
+/// The length of the longest trace, enough for the findings area of each.
+pub fn longest(traces: &[&[u8]]) -> usize {
+    let lengths = traces.iter().map(|trace| trace.len());
+    lengths.max().unwrap_or(0)
+}
+
+/// The best time of each call on each input, in ns, with an area of so many bytes. The samples of all
+/// of them take turns, so that other work on the machine meets all alike.
+pub fn best_times<const N: usize, A>(
+    calls: [Call<A>; N],
+    inputs: &[&[u8]],
+    area_len: usize,
+) -> Vec<[f64; N]> {
+    let mut area = vec![0; area_len];
+    let mut best = vec![[f64::INFINITY; N]; inputs.len()];
     let mut progress = Progress::new("rounds", SAMPLES);
     for round in 1..=SAMPLES {
-        for (best, trace) in best.iter_mut().zip(traces) {
-            for (best, checker) in best.iter_mut().zip(checkers) {
-                *best = best.min(sample_time(checker, trace, &mut area));
+        for (best, input) in best.iter_mut().zip(inputs) {
+            for (best, call) in best.iter_mut().zip(calls) {
+                *best = best.min(sample_time(call, input, &mut area));
             }
         }
         progress.done(round);
@@ -97,11 +110,11 @@ pub fn best_times<const N: usize>(checkers: [Checker; N], traces: &[&[u8]]) -> V
 }
 
 /// Time of one call, in ns, from as many calls as a sample takes.
-fn sample_time(checker: Checker, trace: &[u8], area: &mut [u8]) -> f64 {
+fn sample_time<A>(call: Call<A>, input: &[u8], area: &mut [u8]) -> f64 {
     let start = Instant::now();
     let mut calls = 0.0;
     loop {
-        black_box(checker(black_box(trace), black_box(area)));
+        black_box(call(black_box(input), black_box(area)));
         calls += 1.0;
         let passed = start.elapsed();
         if passed >= SAMPLE {

@@ -20,7 +20,7 @@ use std::time::{Duration, Instant};
 pub const STRINGS: u64 = 1_000_000;
 
 /// How long one call may take.
-const LIMIT: Duration = Duration::from_secs(10);
+pub const LIMIT: Duration = Duration::from_secs(10);
 
 /// The files in `target/` that take a string.
 const BAD_FILE: &str = "harness-bad.trace";
@@ -430,6 +430,28 @@ fn watch(judging: &[AtomicU64], limit: Duration, ended: &Receiver<()>) -> Option
     None
 }
 
+/// Does work while a watcher waits: a call that does not return ends the program, with a text for
+/// its number. While a thread waits for an answer, its place in the numbers has the string's, else 0.
+pub fn watched<T>(
+    work: impl FnOnce(&[AtomicU64]) -> T,
+    hang_text: impl Fn(u64) -> String + Sync,
+) -> T {
+    let judging: Vec<AtomicU64> = (0..threads()).map(|_| AtomicU64::new(0)).collect();
+    let (ending, ended) = channel();
+    std::thread::scope(|scope| {
+        scope.spawn(|| {
+            let ended = ended;
+            if let Some(number) = watch(&judging, LIMIT, &ended) {
+                eprint!("{}", hang_text(number));
+                exit(1);
+            }
+        });
+        let result = work(&judging);
+        drop(ending);
+        result
+    })
+}
+
 /// The lines for a string without an answer, which goes to a file.
 fn hang_text(judge: &str, seed: u64, number: u64) -> String {
     let given = given(seed, number);
@@ -444,20 +466,10 @@ fn hang_text(judge: &str, seed: u64, number: u64) -> String {
 /// The lines for standard output, or, for a violation, those for standard error. A call that does
 /// not return ends the program.
 pub fn command(judge: &Judge, strings: u64, seed: u64) -> Result<String, String> {
-    let judging: Vec<AtomicU64> = (0..threads()).map(|_| AtomicU64::new(0)).collect();
-    let (ending, ended) = channel();
-    let result = std::thread::scope(|scope| {
-        scope.spawn(|| {
-            let ended = ended;
-            if let Some(number) = watch(&judging, LIMIT, &ended) {
-                eprint!("{}", hang_text(judge.name, seed, number));
-                exit(1);
-            }
-        });
-        let result = judge_all(judge, strings, seed, &judging);
-        drop(ending);
-        result
-    });
+    let result = watched(
+        |judging| judge_all(judge, strings, seed, judging),
+        |number| hang_text(judge.name, seed, number),
+    );
     match result {
         Ok(counts) => {
             let text = counted(&counts.named(), strings >= STRINGS)?;

@@ -1,9 +1,12 @@
-//! How the time to judge a trace grows with its records and with the bytes that they name.
+//! How the time to judge a trace grows with its records and with the bytes that they name, and the
+//! time to lay findings out with the rows.
 
-use crate::bench::{best_times, how_measured, number, ratio, thousands, CHECKERS};
+use crate::bench::{best_times, how_measured, longest, number, ratio, thousands, Call, CHECKERS};
+use crate::pages;
+use crate::plain_pages::{self, length, MOST_FINDINGS};
 use crate::workloads::{durable_rounds, large_ordered, large_persisted, random_events, trace_of};
 use reference::random::{Mix, Random};
-use reference::{Event, Range};
+use reference::{Event, Finding, Kind, Range};
 
 /// Traces of growing size.
 struct Series {
@@ -12,17 +15,82 @@ struct Series {
     traces: Vec<(u16, Vec<u8>)>,
 }
 
-/// A table for each series.
+/// A table for each series, and one of the pages.
 pub fn command() -> String {
     let all = series();
     let traces = all.iter().flat_map(|series| &series.traces);
     let traces: Vec<&[u8]> = traces.map(|(_, trace)| &trace[..]).collect();
     let checkers = [CHECKERS[0].1, CHECKERS[1].1];
-    let mut times = best_times(checkers, &traces).into_iter();
+    let mut times = best_times(checkers, &traces, longest(&traces)).into_iter();
     let how = how_measured();
     let tables = all.iter().map(|series| table(series, &mut times));
-    format!("µs a trace, {how}; in brackets the ratio to the row before\n")
+    format!("µs a trace or a findings area, {how}; in brackets the ratio to the row before\n")
         + &tables.collect::<String>()
+        + &pages_table()
+}
+
+/// The layouts that are timed.
+const LAYOUTS: [Call<[u32; 3]>; 2] = [
+    |findings, area| {
+        let mut answer = [0; 3];
+        pages::lay_out(findings, area, &mut answer);
+        answer
+    },
+    |findings, area| {
+        let mut answer = [0; 3];
+        plain_pages::lay_out(findings, area, &mut answer);
+        answer
+    },
+];
+
+/// Findings areas with rows from 64 on, each time twice as many, up to the most.
+fn findings_areas() -> Vec<(usize, Vec<u8>)> {
+    let twice = |&rows: &usize| (rows < MOST_FINDINGS).then_some((2 * rows).min(MOST_FINDINGS));
+    std::iter::successors(Some(64), twice)
+        .map(|rows| (rows, findings_of(rows)))
+        .collect()
+}
+
+/// So many findings of the kinds 1 to 8 in turn, with numbers of every count of digits.
+fn findings_of(rows: usize) -> Vec<u8> {
+    let mut random = Random::new(1);
+    let mut findings = Vec::new();
+    for row in 0..rows {
+        let mut any = || {
+            let limit = random.pick(&[10, 100, 1_000, 10_000, 65_536]);
+            random.below(limit) as u16
+        };
+        let finding = Finding {
+            kind: Kind::ALL[1 + row % 8],
+            lost: any(),
+            kept: any(),
+            moment: any(),
+            store: any(),
+            site: any(),
+        };
+        findings.extend(finding.to_bytes());
+    }
+    findings
+}
+
+fn pages_table() -> String {
+    let areas = findings_areas();
+    let inputs: Vec<&[u8]> = areas.iter().map(|(_, findings)| &findings[..]).collect();
+    let times = best_times(LAYOUTS, &inputs, length(MOST_FINDINGS));
+    let mut text = "\nPages of findings, each of them a row:\n\n".to_string();
+    text += "| Rows | pages (proved) | plain Rust | proved / plain | proved, ns a row |\n";
+    text += "|--:|--:|--:|--:|--:|\n";
+    let mut before = None;
+    for ((rows, _), times) in areas.iter().zip(times) {
+        let rows = *rows as f64;
+        text += &format!(
+            "{} {} |\n",
+            row(rows, times, before),
+            number(times[0] / rows)
+        );
+        before = Some(times);
+    }
+    text
 }
 
 fn series() -> [Series; 5] {
@@ -82,13 +150,13 @@ fn table(series: &Series, times: &mut impl Iterator<Item = [f64; 2]>) -> String 
     text += "|--:|--:|--:|--:|\n";
     let mut before = None;
     for ((size, _), times) in series.traces.iter().zip(times) {
-        text += &row(*size, times, before);
+        text += &format!("{}\n", row(f64::from(*size), times, before));
         before = Some(times);
     }
     text
 }
 
-fn row(size: u16, times: [f64; 2], before: Option<[f64; 2]>) -> String {
+fn row(size: f64, times: [f64; 2], before: Option<[f64; 2]>) -> String {
     let cell = |at: usize| {
         let time = number(times[at] / 1_000.0);
         match before {
@@ -97,8 +165,8 @@ fn row(size: u16, times: [f64; 2], before: Option<[f64; 2]>) -> String {
         }
     };
     format!(
-        "| {} | {} | {} | {} |\n",
-        thousands(f64::from(size)),
+        "| {} | {} | {} | {} |",
+        thousands(size),
         cell(0),
         cell(1),
         ratio(times[0] / times[1])
@@ -107,8 +175,9 @@ fn row(size: u16, times: [f64; 2], before: Option<[f64; 2]>) -> String {
 
 #[cfg(test)]
 mod tests {
-    use super::series;
-    use reference::Kind;
+    use super::{findings_areas, series, LAYOUTS};
+    use crate::plain_pages::length;
+    use reference::{pages, Kind};
 
     #[test]
     fn every_trace_is_accepted_and_no_named_assertion_is_broken() {
@@ -120,6 +189,22 @@ mod tests {
                 let any = report.findings.iter().any(|finding| broken(finding.kind));
                 assert!(at == 0 || !any, "{} {size}", series.title);
                 assert!(at > 0 || report.totals.events == usize::from(*size));
+            }
+        }
+    }
+
+    #[test]
+    fn every_finding_is_a_row_and_the_layouts_agree() {
+        let areas = findings_areas();
+        assert_eq!(areas.first().map(|(rows, _)| *rows), Some(64));
+        assert_eq!(areas.last().map(|(rows, _)| *rows), Some(65_535));
+        for (rows, findings) in areas {
+            let expected = pages::lay_out(&findings, length(rows)).expect("laid out");
+            assert_eq!(expected.len(), length(rows));
+            for call in LAYOUTS {
+                let mut area = vec![0; length(rows)];
+                assert_eq!(call(&findings, &mut area), [0, 0, length(rows) as u32]);
+                assert!(area == expected, "{rows} rows");
             }
         }
     }

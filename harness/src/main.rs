@@ -1,14 +1,20 @@
-//! The proved judge beside other checkers: compared on random traces, fuzzed, and timed; and the
-//! proved writer, compared on random lists of calls.
+//! The proved judge beside other checkers: compared on random traces, fuzzed, and timed; the proved
+//! writer, compared on random lists of calls; and the proved pages of findings, compared on random
+//! findings areas, fuzzed, and timed.
 
+mod areas;
 mod bench;
 mod differential;
 mod fuzz;
 mod growth;
 mod judge;
 mod lists;
+mod page_fuzz;
+mod pages;
 mod plain;
+mod plain_pages;
 mod plot;
+mod printing;
 mod progress;
 mod ranges;
 mod workloads;
@@ -16,6 +22,7 @@ mod writer;
 mod writing;
 
 use differential::Judge;
+use printing::Layout;
 use std::io::{self, ErrorKind, Write};
 use std::process::ExitCode;
 use writing::Writer;
@@ -25,13 +32,14 @@ harness: the proved judge beside other checkers
 
 usage:
   harness differential [TRACES [SEED]]   compare the judges with the unrelated checker on random
-                                         traces (200,000 of seed 1), and the writer on as many
-                                         lists of calls
+                                         traces (200,000 of seed 1), the writer on as many
+                                         lists of calls, and the pages of as many findings areas
   harness fuzz [STRINGS [SEED]]          give the proved judge arbitrary strings of bytes
-                                         (1,000,000 of seed 1)
+                                         (1,000,000 of seed 1), and the proved pages as many
   harness bench [SVG]                    time the proved judge beside an implementation in plain Rust
                                          and a checker of ranges as PMTest has them; the plot goes to SVG
-  harness growth                         time it against the records of a trace and the bytes named
+  harness growth                         time it against the records of a trace and the bytes named,
+                                         and the pages against their rows
   harness --help                         print this text
 
 TRACES and STRINGS are numbers from 1, SEED is a number; digits only.
@@ -56,6 +64,20 @@ const WRITER: Writer = Writer {
     name: "proved",
     call: writer::call,
 };
+
+const PROVED_PAGES: Layout = Layout {
+    name: "proved",
+    call: pages::lay_out,
+};
+
+/// The layouts that `differential` compares with the unrelated one.
+const LAYOUTS: [Layout; 2] = [
+    PROVED_PAGES,
+    Layout {
+        name: "plain",
+        call: plain_pages::lay_out,
+    },
+];
 
 const DEFAULT_SEED: u64 = 1;
 
@@ -101,7 +123,7 @@ fn run(words: &[&str]) -> Result<String, Failure> {
         }
         ["fuzz", numbers @ ..] => {
             let (strings, seed) = count_and_seed(words[0], numbers, fuzz::STRINGS)?;
-            fuzz::command(&PROVED, strings, seed).map_err(Failure::Found)
+            fuzzed(strings, seed).map_err(Failure::Found)
         }
         ["bench"] => bench::measured()
             .map(|rows| bench::table(&rows))
@@ -113,10 +135,18 @@ fn run(words: &[&str]) -> Result<String, Failure> {
     }
 }
 
-/// The judges on so many traces, and the writer on as many lists of calls.
+/// The judges on so many traces, the writer on as many lists of calls, and the layouts on as many
+/// findings areas.
 fn compared(traces: u64, seed: u64) -> Result<String, String> {
     let text = differential::command(&JUDGES, traces, seed)?;
-    Ok(text + &writing::command(&WRITER, traces, seed)?)
+    let text = text + &writing::command(&WRITER, traces, seed)?;
+    Ok(text + &printing::command(&LAYOUTS, traces, seed)?)
+}
+
+/// The judge on so many strings, and the pages on as many.
+fn fuzzed(strings: u64, seed: u64) -> Result<String, String> {
+    let text = fuzz::command(&PROVED, strings, seed)?;
+    Ok(text + &page_fuzz::command(&PROVED_PAGES, strings, seed)?)
 }
 
 /// The table, after the plot has been written.

@@ -51,10 +51,19 @@ fn small_runs_print_the_same_counts_each_time() {
             [
                 "traces 500\n",
                 "\nlists of calls to the writer 500\n",
-                "\nseed 7\ndiffer 0\n",
+                "\nfindings areas 500\n",
+                "\nlayouts compared with reference: proved, plain\nseed 7\ndiffer 0\n",
             ],
         ),
-        ("fuzz", ["strings 500\n", "\nbytes ", "\nseed 7\nbad 0\n"]),
+        (
+            "fuzz",
+            [
+                "strings 500\n",
+                "\nbytes ",
+                "\nstrings to the pages 500\n",
+                "\nlayout proved\nseed 7\nbad 0\n",
+            ],
+        ),
     ] {
         let (one, other) = (
             harness(&[command, "500", "7"]),
@@ -63,8 +72,8 @@ fn small_runs_print_the_same_counts_each_time() {
         assert_eq!(one.status.code(), Some(0));
         assert_eq!(one.stdout, other.stdout);
         let said = text(&one.stdout);
-        let [first, middle, last] = parts;
+        let [first, between @ .., last] = parts;
         assert!(said.starts_with(first) && said.ends_with(last), "{said}");
-        assert!(said.contains(middle), "{said}");
+        assert!(between.iter().all(|part| said.contains(part)), "{said}");
     }
 }

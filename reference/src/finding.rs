@@ -50,6 +50,10 @@ impl Kind {
     pub fn from_name(name: &str) -> Option<Kind> {
         Kind::ALL.into_iter().find(|kind| kind.name() == name)
     }
+
+    pub fn from_number(number: u8) -> Option<Kind> {
+        Kind::ALL.get(usize::from(number)).copied()
+    }
 }
 
 #[derive(Clone, Copy, Debug, PartialEq, Eq, Hash)]
@@ -115,6 +119,24 @@ impl Finding {
             place.copy_from_slice(&field.to_le_bytes());
         }
         bytes
+    }
+
+    /// The finding of these bytes. Refusals 6 (kind) and 7 (zero byte), in this order.
+    pub fn from_bytes(bytes: &[u8; RECORD]) -> Result<Finding, u8> {
+        let kind = Kind::from_number(bytes[0]).ok_or(6)?;
+        if bytes[1] != 0 {
+            return Err(7);
+        }
+        let field = |at: usize| u16::from_le_bytes([bytes[at], bytes[at + 1]]);
+        let [lost, kept, moment, store, site] = [2, 4, 6, 8, 10].map(field);
+        Ok(Finding {
+            kind,
+            lost,
+            kept,
+            moment,
+            store,
+            site,
+        })
     }
 }
 

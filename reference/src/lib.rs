@@ -11,6 +11,10 @@
 //! and the persist interval of a byte asked for (module [`singly`]). Module [`writer`] writes a
 //! trace file into an area, event by event. Module [`calls`] makes a file of calls on single events
 //! and of the writer, and the text of their answers.
+//!
+//! Module [`pages`] lays the findings of a findings area out for print, module [`read_back`] checks
+//! such pages, and module [`page_calls`] makes a file of calls of the pages and the text of their
+//! answers.
 
 pub mod calls;
 pub mod check;
@@ -21,7 +25,10 @@ pub mod finding;
 pub mod images;
 pub mod interval;
 pub mod outcome;
+pub mod page_calls;
+pub mod pages;
 pub mod random;
+pub mod read_back;
 pub mod script;
 pub mod singly;
 pub mod trace;

@@ -1,9 +1,11 @@
 //! The command `reference`.
 
 use reference::calls::Calls;
+use reference::page_calls::PageCalls;
+use reference::pages::{self, Refused};
 use reference::script::Script;
 use reference::trace::{MAX_TRACE, RECORD};
-use reference::{check, corpus, images, judge, judge_by_images, listing, Outcome};
+use reference::{check, corpus, findings_bytes, images, judge, judge_by_images, listing, Outcome};
 use std::fs::File;
 use std::io::{self, ErrorKind, Read, Write};
 use std::path::Path;
@@ -20,9 +22,14 @@ usage:
   reference corpus CORPUS SUMMARY    write the corpus and its summary
   reference calls CALLS ANSWERS      write calls on single events and of the writer, and the text
                                      of their answers
+  reference findings TRACE           write the findings area of a trace to standard output, or
+                                     print `refused N at R`
+  reference pages FINDINGS           print the pages of a findings area, or `refused N at P`
+  reference page-calls CALLS ANSWERS
+                                     write calls of the pages, and the text of their answers
   reference --help                   print this text
 
-SCRIPT and the TRACE of `judge` may be `-` for standard input.
+SCRIPT, FINDINGS and the TRACE of `judge` and `findings` may be `-` for standard input.
 `judge --images` enumerates crash images, for small traces.
 Exit status: 0 done, 1 a script differs, 2 bad usage or files.
 ";
@@ -61,11 +68,16 @@ fn run(words: &[&str]) -> Result<ExitCode, Failure> {
         ["check", scripts @ ..] if !scripts.is_empty() => check_command(scripts),
         ["corpus", corpus, summary] => corpus_command(corpus, summary),
         ["calls", calls, answers] => calls_command(calls, answers),
+        ["findings", trace] => findings_command(trace),
+        ["pages", findings] => pages_command(findings),
+        ["page-calls", calls, answers] => page_calls_command(calls, answers),
         [] => Err("reference: a command is missing; see `reference --help`".to_string()),
-        ["write" | "judge" | "check" | "corpus" | "calls", ..] => Err(format!(
-            "reference {}: wrong arguments; see `reference --help`",
-            words[0]
-        )),
+        ["write" | "judge" | "check" | "corpus" | "calls" | "findings" | "pages" | "page-calls", ..] => {
+            Err(format!(
+                "reference {}: wrong arguments; see `reference --help`",
+                words[0]
+            ))
+        }
         [word, ..] => Err(format!(
             "reference: no command `{word}`; see `reference --help`"
         )),
@@ -73,9 +85,13 @@ fn run(words: &[&str]) -> Result<ExitCode, Failure> {
 }
 
 fn judge_command(name: &str, by_images: bool) -> Result<ExitCode, Failure> {
-    // One byte more than the longest trace is enough to refuse a longer one.
-    let trace = read_up_to(name, MAX_TRACE as u64 + 1)?;
+    let trace = read_trace(name)?;
     print(listing(&judged(name, &trace, by_images)?).as_bytes())
+}
+
+/// One byte more than the longest trace is enough to refuse a longer one.
+fn read_trace(name: &str) -> Result<Vec<u8>, Failure> {
+    read_up_to(name, MAX_TRACE as u64 + 1)
 }
 
 fn judged(name: &str, trace: &[u8], by_images: bool) -> Result<Outcome, Failure> {
@@ -136,6 +152,34 @@ fn calls_command(calls_name: &str, answers_name: &str) -> Result<ExitCode, Failu
     }
     write_file(calls_name, &calls.to_bytes())?;
     write_file(answers_name, calls.text().as_bytes())
+}
+
+fn findings_command(name: &str) -> Result<ExitCode, Failure> {
+    match judge(&read_trace(name)?, MAX_TRACE) {
+        refused @ Outcome::Refused(_) => print(listing(&refused).as_bytes()),
+        accepted => print(&findings_bytes(&accepted)),
+    }
+}
+
+fn pages_command(name: &str) -> Result<ExitCode, Failure> {
+    // One byte more than the most findings is enough to refuse a longer area.
+    let most = RECORD * pages::MOST_FINDINGS;
+    let findings = read_up_to(name, most as u64 + 1)?;
+    match pages::lay_out(&findings, usize::MAX) {
+        Ok(pages) => print(&pages),
+        Err(Refused { number, position }) => {
+            print(format!("refused {number} at {position}\n").as_bytes())
+        }
+    }
+}
+
+fn page_calls_command(calls_name: &str, answers_name: &str) -> Result<ExitCode, Failure> {
+    let calls = PageCalls::build()?;
+    for line in calls.note() {
+        eprintln!("{line}");
+    }
+    write_file(calls_name, &calls.to_bytes())?;
+    write_file(answers_name, &calls.text())
 }
 
 fn read_script(name: &str) -> Result<Script, Failure> {

@@ -136,10 +136,73 @@ fn calls() {
 }
 
 #[test]
+fn findings_and_pages() {
+    let trace = run(&["write", "-"], SCRIPT.as_bytes()).stdout;
+    let output = run(&["findings", "-"], &trace);
+    assert_eq!(output.status.code(), Some(0));
+    let findings = output.stdout;
+    let none = [0, 0, 0, 0, 0, 0, 0, 0, 0, 0, 10, 0];
+    let lost = [2, 0, 0, 0, 0, 0, 2, 0, 1, 0, 11, 0];
+    assert_eq!(findings, [none, lost].concat());
+    let output = run(&["findings", "-"], &trace[1..]);
+    assert_eq!(text(&output.stdout), "refused 5 at 0\n");
+    assert_eq!(output.status.code(), Some(0));
+    let output = run(&["pages", "-"], &findings);
+    assert_eq!(output.status.code(), Some(0));
+    assert_eq!(
+        text(&output.stdout),
+        [
+            " event       site  finding          lost   kept moment  store\n",
+            "     2         11  lost                0      0      2      1\n",
+            "page 1 of 1                                                  \n",
+        ]
+        .concat()
+    );
+    let file = folder("findings_and_pages").join("findings");
+    std::fs::write(&file, &findings).expect("written");
+    let from_file = run(&["pages", file.to_str().expect("text")], b"");
+    assert_eq!(from_file.stdout, output.stdout);
+    let output = run(&["pages", "-"], &findings[1..]);
+    assert_eq!(text(&output.stdout), "refused 5 at 0\n");
+    let output = run(&["pages", "-"], &vec![0; 12 * 65_536]);
+    assert_eq!(text(&output.stdout), "refused 5 at 0\n");
+    let damaged = [&findings[..12], &[9; 12]].concat();
+    let output = run(&["pages", "-"], &damaged);
+    assert_eq!(text(&output.stdout), "refused 6 at 2\n");
+    assert_eq!(output.status.code(), Some(0));
+}
+
+#[test]
+fn page_calls() {
+    let folder = folder("page_calls");
+    let path = |name: &str| folder.join(name).to_str().expect("text").to_string();
+    let (calls, answers) = (path("stdin"), path("stdout"));
+    let output = run(&["page-calls", &calls, &answers], b"");
+    assert_eq!(output.status.code(), Some(0));
+    assert!(text(&output.stderr).contains("all of them read back"));
+    assert!(output.stdout.is_empty());
+    let calls = std::fs::read(calls).expect("written");
+    assert_eq!((calls.len() % 24, calls[0]), (0, 2));
+    let answers = std::fs::read_to_string(answers).expect("written");
+    assert!(answers.starts_with("pages of 108 bytes in 372: length 372 sum "));
+}
+
+#[test]
 fn help() {
     let output = run(&["--help"], b"");
     assert_eq!(output.status.code(), Some(0));
-    for word in ["write", "judge", "check", "corpus", "calls", "--images"] {
+    let words = [
+        "write",
+        "judge",
+        "check",
+        "corpus",
+        "calls",
+        "findings",
+        "pages",
+        "page-calls",
+        "--images",
+    ];
+    for word in words {
         assert!(text(&output.stdout).contains(word), "{word}");
     }
 }
@@ -160,6 +223,12 @@ fn bad_usage() {
         &["corpus", "a", "b", "c"],
         &["calls", "a"],
         &["calls", "a", "b", "c"],
+        &["findings"],
+        &["findings", "a", "b"],
+        &["pages"],
+        &["pages", "a", "b"],
+        &["page-calls", "a"],
+        &["page-calls", "a", "b", "c"],
     ] {
         fails(args, b"", "wrong arguments");
     }
@@ -171,7 +240,7 @@ fn bad_files() {
     let here = folder.to_str().expect("text").to_string();
     let missing = folder.join("missing").to_str().expect("text").to_string();
     let inside = folder.join("no/such").to_str().expect("text").to_string();
-    for command in ["judge", "write", "check"] {
+    for command in ["judge", "write", "check", "findings", "pages"] {
         fails(&[command, &missing], b"", "missing: ");
         fails(&[command, &here], b"", "directory");
     }

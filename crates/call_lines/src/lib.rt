@@ -1,4 +1,4 @@
-// The line of each call of `engine_runs`, on standard output.
+// The line of each call of `engine_runs`, on standard output, and the words and numbers that `page_runs` prints too.
 use engine::Asked;
 use engine::Closing;
 use event::Answer;

@@ -41,6 +41,7 @@ use Rattle.claims.proofs.Paper.{persist-interval}
 use Rattle.claims.proofs.Answers.{limited, tracked, viewed, same, inside, decided, refused, taken, closing-totals, not-refused}
 use Rattle.claims.proofs.Calls.{called-after}
 use Rattle.claims.proofs.Records.{read-refused, read-taken}
+use Rattle.claims.proofs.Paging.{pages-refused, damage-refused, damage-decided, room-refused, pages-taken}
 use Rattle.claims.proofs.Traces.{records-decided, trailer-refused, trailer-taken, trace-refused, record-refused, trace-open, trace-taken}
 use Rattle.claims.proofs.Singly.{given-singly}
 use Rattle.claims.proofs.WriterLimits.{start-refused, start-taken, write-refused, write-taken, bytes-refused, bytes-taken, file-refused, file-taken}
@@ -127,6 +128,14 @@ demand1 =
       fileNumbers = λ room at depth. refl;
       fileRefused = file-refused;
       fileTaken = file-taken;
+      pagesNumbers = λ area. refl;
+      pagesRefused = pages-refused;
+      damageNumbers = λ before area. refl;
+      damageRefused = λ area text whole d. damage-refused area text whole d;
+      damageDecided = damage-decided;
+      pageRoomNumbers = λ room size. refl;
+      pageRoomRefused = λ area text whole sound k. room-refused area text whole sound k;
+      pagesTaken = pages-taken;
     }
 
 pub demand2 : Demand2

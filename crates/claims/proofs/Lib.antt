@@ -13,5 +13,9 @@ pub mod Failure  -- an assertion that does not hold is lost or out of order
 pub mod Writing  -- what the area of a writer holds, and what each call answers and leaves
 pub mod WriterRuns  -- the answers to any calls on a writer
 pub mod WriterLimits  -- a writer's calls, whatever the writer
+pub mod Paging  -- which findings areas are refused when they are laid out
 pub mod Written  -- request 1 holds
+pub mod Fits  -- the findings of an accepted trace are bytes
+pub mod Paged  -- request 3 holds
+pub mod TracePages  -- the findings of an accepted trace, laid out
 pub mod Demands  -- the demands hold

@@ -1,10 +1,11 @@
--- Demand 1, for fresh windows, events, bytes asked, closings, records and traces, and for a writer's calls: whatever breaks a stated
--- limit is refused by the first number that applies, and by no number otherwise; run, findings area, writer and its area are then what
--- they were. The numbers 1 to 14 are document 01's; so is the record's number beside each. 15 is request 1's.
+-- Demand 1, for fresh windows, events, bytes asked, closings, records and traces, for a writer's calls and for pages: whatever breaks a
+-- stated limit is refused by the first number that applies, and by no number otherwise; run, findings area, writer and its area, and page
+-- area are then what they were. The numbers 1 to 14 are document 01's; so is the record's number beside each. 15 is request 1's, 16 is
+-- request 3's.
 use mathlib.Core.Path.{_≡_}
 use mathlib.Core.Logic.{_≢_, _⊎_}
 use mathlib.Core.List.{List, [], _∷_, _++_}
-use Prim.Native.Nat.{ℕ, _+_, _≤_, _<_}
+use Prim.Native.Nat.{ℕ, suc, _+_, _≤_, _<_}
 use lib.ListN.{length, drop, getD}
 use Rattle.event.specs.declared.Event.{Event}
 use Rattle.event.specs.declared.Record.{Record}
@@ -31,7 +32,11 @@ use Rattle.file.specs.declared.Started.the-variants.{Ready}
 use Rattle.file.specs.Limits.{startLimits, writeLimits, bytesLimits, closeLimits}
 use Rattle.file.specs.Write.{writerWith, recordsEnd, viewOf, startedOf, areaStarted, writtenOf, areaWritten, bytesWrittenOf, areaBytesWritten, closedOf, areaClosed}
 use Rattle.file.specs.Reply.{startReply, writtenReply, closedReply}
+use Rattle.pages.specs.Pages.{findingsIn, pagesOf}
+use Rattle.pages.specs.Limits.{wholeLimits, damageLimits, roomLimits}
+use Rattle.pages.specs.Paged.{pagedOf, pagedReply, pageAreaAfter}
 use Rattle.claims.specs.After.{runFrom, takenFrom}
+use Rattle.claims.specs.Paging.{NoneDamaged, DamagedFirst, NotPaged}
 use Rattle.claims.specs.Traces.{recordLimits, StopsAt, TakesAll, Rejected}
 
 pub record Demand1 : Type 0 where
@@ -113,3 +118,20 @@ pub record Demand1 : Type 0 where
       (closedReply (closedOf area w) ≡ Reply.refused (numberOf x) 0) × (areaClosed area w ≡ area)
   pub fileTaken : (area : List ℕ) (w : Writer) → NoneBroken (closeLimits (length area) (recordsEnd w) (w .depth)) →
       closedReply (closedOf area w) ≡ Reply.values ((recordsEnd w + trailerSize) ∷ [])
+  -- pages of a findings area: 5, at 0; the page area is as it was after this and every other refusal
+  pub pagesNumbers : (findings : List ℕ) → limitNumbers (wholeLimits findings) ≡ 5 ∷ []
+  pub pagesRefused : (findings area : List ℕ) {x : Refusal} → First (wholeLimits findings) x → NotPaged findings area (numberOf x) 0
+  -- else the first of 6 and 7 that applies to the first finding that is damaged, at its position from 1
+  pub damageNumbers : (before : ℕ) (findings : List ℕ) → limitNumbers (damageLimits before findings) ≡ 6 ∷ 7 ∷ []
+  pub damageRefused : (findings area : List ℕ) {x : Refusal} {before : ℕ} → NoneBroken (wholeLimits findings) → DamagedFirst findings x before →
+      NotPaged findings area (numberOf x) (suc before)
+  pub damageDecided : (findings : List ℕ) → ((x : Refusal) × (before : ℕ) × DamagedFirst findings x before) ⊎ NoneDamaged (findingsIn findings) findings
+  -- else 16, at 0
+  pub pageRoomNumbers : (room size : ℕ) → limitNumbers (roomLimits room size) ≡ 16 ∷ []
+  pub pageRoomRefused : (findings area : List ℕ) {x : Refusal} → NoneBroken (wholeLimits findings) → NoneDamaged (findingsIn findings) findings →
+      First (roomLimits (length area) (length (pagesOf findings))) x → NotPaged findings area (numberOf x) 0
+  -- else by no number: the length written; the pages are at the page area's start, and the bytes beyond do not change
+  pub pagesTaken : (findings area : List ℕ) → NoneBroken (wholeLimits findings) → NoneDamaged (findingsIn findings) findings →
+      NoneBroken (roomLimits (length area) (length (pagesOf findings))) →
+      (pagedReply (pagedOf findings (length area)) ≡ Reply.values (length (pagesOf findings) ∷ [])) ×
+      (pageAreaAfter findings area ≡ pagesOf findings ++ drop (length (pagesOf findings)) area)

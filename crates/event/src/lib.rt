@@ -64,7 +64,7 @@ pub struct Fields {
     pub store: u16,
 }
 
-// The fifteen reasons for a refusal, in the order of their numbers.
+// The sixteen reasons for a refusal, in the order of their numbers.
 pub enum Refusal {
     TraceTooShort,
     TraceTooLong,
@@ -81,6 +81,7 @@ pub enum Refusal {
     TransactionOpen,
     AreaTooShort,
     FileAreaTooShort,
+    PageAreaTooShort,
 }
 
 // What a check of the limits says.

@@ -75,7 +75,7 @@ pub fn fields(f: Finding) -> Fields
     }
 }
 
-// A refusal's number, 1 to 15.
+// A refusal's number, 1 to 16.
 pub fn number(r: Refusal) -> u8
     ensures { λ n. ⌜ n ≡ numberOf r ⌝ }
 {
@@ -95,5 +95,6 @@ pub fn number(r: Refusal) -> u8
         Refusal::TransactionOpen => 13,
         Refusal::AreaTooShort => 14,
         Refusal::FileAreaTooShort => 15,
+        Refusal::PageAreaTooShort => 16,
     }
 }

@@ -24,7 +24,9 @@ use Rattle.history.specs.Given.{answerOf, accepted, answers}
 use Rattle.limits.proofs.Passed.{passed-unbroken}
 use Rattle.trailer.specs.declared.Trailer.{Trailer}
 use Rattle.trace.specs.declared.TraceCheck.the-variants.{Passed}
+use Rattle.window.specs.Window.{mostLines}
 use Rattle.trailer.specs.Trailer.{mostBytes, trailerOf, endOf}
+use Rattle.trailer.proofs.Lines.{window-lines, few-lines}
 use Rattle.trace.specs.Records.{recordPart, eventsOf, linesIn, recordsIn, eventsIn}
 use Rattle.trace.specs.Checked.{checkFrom, checkAll}
 use Rattle.trace.proofs.RecordsNext.{records-counted}
@@ -37,7 +39,7 @@ use Rattle.listing.specs.Report.{findingLines}
 
 -- what is read after other bytes
 module _ (before s : List ℕ) (n : ℕ) (e : length before ≡ n) where
-  byte-after : (i : ℕ) → getD (before ++ s) (n + i) 0 ≡ getD s i 0
+  pub byte-after : (i : ℕ) → getD (before ++ s) (n + i) 0 ≡ getD s i 0
   byte-after i = rw (← e) (getD-append-add before s i 0)
 
   u16-after : (i : ℕ) → u16At (before ++ s) (n + i) ≡ u16At s i
@@ -62,7 +64,7 @@ line-read before bytes f site rest e =
     (fields-after bytes (findingBytes f site ++ rest) (findingSize * before) e ∙ fields-read f site rest)
 
 -- records that are events, each with a finding after the history and those before it
-data AllFound (lines : ℕ) : History → List Parsed → Type 0 where
+pub data AllFound (lines : ℕ) : History → List Parsed → Type 0 where
   done : {h : History} → AllFound lines h []
   found : {h : History} {r : Record} {f : Finding} {rest : List Parsed} →
       answerOf lines h r ≡ Found f → AllFound lines (r ∷ h) rest → AllFound lines h (Read r ∷ rest)
@@ -85,7 +87,7 @@ all-accepted AllFound.done = omega arith
 all-accepted (AllFound.found e rest) = rw (e, accepted) (omega (arith, all-accepted rest))
 
 -- and where their findings stand after those of as many events as there are before, their lines are read
-lines-read : {lines : ℕ} {h : History} {records : List Parsed} → AllFound lines h records →
+pub lines-read : {lines : ℕ} {h : History} {records : List Parsed} → AllFound lines h records →
     (before : ℕ) (bytes after : List ℕ) → length bytes ≡ findingSize * before →
     let given = eventsOf records in
     linesFrom before (length given) (bytes ++ (findingsBytes given (answers lines h given) ++ after)) ≡
@@ -114,12 +116,16 @@ module _ (trace area : List ℕ) (accepts : traceCheck trace area ≡ Passed) wh
   both-pass : (firstBroken (traceLimits trace area) ≡ Fits) × (checkAll (linesIn trace) (recordsIn trace) ≡ Passed)
   both-pass = unless-passed (firstBroken (traceLimits trace area)) 0 (checkAll (linesIn trace) (recordsIn trace)) accepts
 
+  -- every event has a finding
+  pub each-found : AllFound (linesIn trace) [] (recordsIn trace)
+  each-found = all-found (linesIn trace) 1 [] (recordsIn trace) (both-pass .1)
+
+  pub all-events : length (historyOf trace) ≡ length (eventsIn trace)
+  all-events = omega (arith, all-accepted each-found)
+
   -- the lines that the code reads off the area are those of the events
   pub area-lines : linesFrom 0 (length (historyOf trace)) (areaAfter trace area) ≡ findingLines 1 (eventsIn trace) (answersOf trace)
-  area-lines =
-      let found = all-found (linesIn trace) 1 [] (recordsIn trace) (both-pass .1) in
-      let all : length (historyOf trace) ≡ length (eventsIn trace) = omega (arith, all-accepted found) in
-      rw (area-holds trace area accepts, all) (lines-read found 0 [] (drop (areaSize trace) area) refl)
+  area-lines = rw (area-holds trace area accepts, all-events) (lines-read each-found 0 [] (drop (areaSize trace) area) refl)
 
   -- there are at most 5,460 of them: 12 bytes each, and 16 for the trailer, in 65,536
   pub events-few : length (eventsIn trace) ≤ 5460
@@ -133,3 +139,10 @@ module _ (trace area : List ℕ) (accepts : traceCheck trace area ≡ Passed) wh
           let short : length trace ≤ mostBytes = ltb-false mostBytes (length trace) b in
           let ends : endOf t ≡ length trace = eqb-true (endOf t) (length trace) (not-false (eqb (endOf t) (length trace)) e) in
           omega (arith, few-events (recordsIn trace), records-counted (t .count) (recordPart (t .offset) trace))
+
+  -- in a window of at most 64 lines
+  pub lines-few : linesIn trace ≤ mostLines
+  lines-few = go (passed-unbroken (traceLimits trace area) (both-pass .0))
+    where
+      go : NoneBroken (traceLimits trace area) → linesIn trace ≤ mostLines
+      go (NoneBroken.cons a (NoneBroken.cons b (NoneBroken.cons c (NoneBroken.cons d e)))) = few-lines (linesIn trace) (window-lines (trailerOf trace) d)

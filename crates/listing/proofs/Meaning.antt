@@ -1,12 +1,10 @@
 -- What is printed, in plain words: for the whole run of document 01, for a trace that is refused, and as the number in the foot.
 use mathlib.Core.Path.{_≡_, refl}
-use mathlib.Core.Bool.{Bool, true, false, cond}
 use mathlib.Core.List.{List, [], _∷_, _++_}
-use Prim.Native.Nat.{ℕ, zero, suc, _+_, _/_, _%_, _≤_}
+use Prim.Native.Nat.{ℕ, suc, _+_, _/_, _≤_}
 use native.Mathlib.Omega.{arith}
-use lib.Dec.{ltb, eqb}
 use lib.ListN.{length}
-use borrow.Author.Tests.{le-ltb, ne-eqb}
+use borrow.Author.Tests.{le-ltb}
 use Rattle.event.specs.declared.Range.{Range}
 use Rattle.event.specs.declared.Event.{Event}
 use Rattle.event.specs.declared.Event.the-variants.{Store, WriteBack, Fence, Persisted, Ordered}
@@ -28,7 +26,9 @@ use Rattle.trace.specs.Records.{recordsOf, eventsOf}
 use Rattle.trace.specs.Checked.{checkFrom}
 use Rattle.trace.specs.Layout.{recordsBytes, traceBytes}
 use Rattle.verdict.specs.Verdict.{verdictOf}
-use Rattle.text.specs.Text.{ascii, digit, decimalIn}
+use Rattle.text.specs.Text.{ascii, decimalIn}
+use Rattle.text.specs.Occurs.{occurs}
+use Rattle.text.proofs.Occurs.{occurs-append, decimal-lacks}
 use Rattle.lines.specs.Lines.{headLine, footLine, refusalLine}
 use Rattle.finding_lines.specs.Lines.{nameOf, field, values, columns, findingLine}
 use Rattle.listing.specs.Report.{lineFor, findingLines, reportOf}
@@ -70,29 +70,14 @@ refused-run area k = rw (le-ltb (length area) 36 k)
 
 -- the line feeds of a text
 abbrev pub feeds : List ℕ → ℕ
-feeds [] = 0
-feeds (b ∷ rest) = cond (eqb b 10) 1 0 + feeds rest
-
-feeds-append : (s t : List ℕ) → feeds (s ++ t) ≡ feeds s + feeds t
-feeds-append [] t = omega arith
-feeds-append (b ∷ s) t = omega (arith, feeds-append s t)
-
-digit-feeds : (d : ℕ) → feeds (digit d ∷ []) ≡ 0
-digit-feeds d = rw (ne-eqb (digit d) 10 (λ e. omega arith))
-
-decimal-feeds : (k n : ℕ) → feeds (decimalIn k n) ≡ 0
-unfolding decimalIn
-decimal-feeds zero n = refl
-decimal-feeds (suc k) n = go (ltb n 10) (decimal-feeds k (n / 10))
-  where
-    go : (b : Bool) → feeds (decimalIn k (n / 10)) ≡ 0 → feeds (cond b (digit n ∷ []) (decimalIn k (n / 10) ++ digit (n % 10) ∷ [])) ≡ 0
-    go true e = digit-feeds n
-    go false e = omega (arith, feeds-append (decimalIn k (n / 10)) (digit (n % 10) ∷ []), digit-feeds (n % 10))
+feeds s = occurs 10 s
 
 -- a finding line has one, and a finding that is none has no line
 columns-feeds : (event site : ℕ) (f : Fields) → feeds (nameOf (f .kind)) ≡ 0 → feeds (columns event site f) ≡ 1
 unfolding field values columns
-columns-feeds event site f name = simp (feeds-append, decimal-feeds, name)
+columns-feeds event site f name =
+    let digits : (n : ℕ) → occurs 10 (decimalIn 10 n) ≡ 0 = λ n. decimal-lacks 10 n (omega arith) in
+    simp (occurs-append 10, digits, name)
 
 line-feeds : (event : ℕ) (r : Record) (a : Answer) → feeds (lineFor event r a) ≡ counts a
 unfolding findingLine
@@ -117,7 +102,7 @@ foot-counts event lines h (r ∷ given) =
     let later = after a r h in
     omega (
       arith,
-      feeds-append (lineFor event r a) (findingLines (suc event) given (answers lines later given)),
+      occurs-append 10 (lineFor event r a) (findingLines (suc event) given (answers lines later given)),
       line-feeds event r a,
       foot-counts (suc event) lines later given,
     )

@@ -94,3 +94,18 @@ few-digits (suc k) n = go (ltb n 10) (few-digits k (n / 10))
 
 pub decimal-length : (n : ℕ) → length (decimal n) ≤ 10
 decimal-length n = few-digits 10 n
+
+-- and no more than the number needs
+pub decimal-few : (m k n : ℕ) → n < 10 ^ suc k → length (decimalIn m n) ≤ suc k
+unfolding decimalIn
+decimal-few zero k n h = omega arith
+decimal-few (suc m) zero n h = rw (lt-ltb n 10 (omega arith)) (omega arith)
+decimal-few (suc m) (suc k) n h = go (ltb n 10) (decimal-few m k (n / 10) (omega arith))
+  where
+    go : (b : Bool) → length (decimalIn m (n / 10)) ≤ suc k → length (cond b (digit n ∷ []) (decimalIn m (n / 10) ++ digit (n % 10) ∷ [])) ≤ suc (suc k)
+    go true front = omega arith
+    go false front = omega (arith, length-append (decimalIn m (n / 10)) (digit (n % 10) ∷ []))
+
+-- five for a number of 16 bits
+pub five-digits : (n : ℕ) → n ≤ 65535 → length (decimal n) ≤ 5
+five-digits n h = decimal-few 10 4 n (omega arith)

@@ -32,7 +32,7 @@ fn last_change(before: &[u8], after: &[u8]) -> usize
 }
 
 // A sum of bytes: each is added to 31 times the sum before it, in 16 bits.
-fn sum(s: &[u8]) -> u16
+pub fn sum(s: &[u8]) -> u16
     ensures { λ r. ⌜ r ≡ sumOf 0 (now (s .entry)) ⌝ }
 {
     let mut x: u32 = 0;

@@ -5,7 +5,7 @@ ghost use lib.ListN.{length};
 ghost use Rattle.writer_calls.specs.Writing.{pattern, sizeIn, roomAfter, spaceAfter, freeAfter, preambleAfter};
 
 // Every byte of a slice: number i from 0 is from + step × i, in 8 bits.
-fn fill(s: &mut [u8], from: u8, step: u8)
+pub fn fill(s: &mut [u8], from: u8, step: u8)
     ensures { λ _. ⌜ now (s .exit) ≡ pattern from step (length (now (s .entry))) ⌝ }
 {
     let mut x = from;

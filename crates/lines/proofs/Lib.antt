@@ -1,0 +1,2 @@
+-- Laws of the lines around the findings.
+pub mod Cuts  -- head and foot are a line each

@@ -1,0 +1,2 @@
+-- What is printed for a findings area.
+pub mod Report  -- the pages or the refusal
