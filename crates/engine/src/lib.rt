@@ -7,7 +7,6 @@ use event::Refusal;
 use events::Given;
 use tables::Run;
 ghost use mathlib.Core.Path.{_≡_};
-ghost use Rattle.tables.specs.View.{intervalFrom};
 ghost use Rattle.events.specs.Give.{giveOf};
 ghost use Rattle.engine.specs.Call.{emptyRun, freshOf, askOf, closeOf};
 
@@ -101,19 +100,6 @@ pub fn give(run: Run, r: Record) -> Given
     }
 }
 
-// A byte's interval, from its last store and the epochs at which the interval opened and closed.
-fn interval_from(store: u16, opened: u16, closed: u16) -> Interval
-    ensures { λ r. ⌜ r ≡ intervalFrom store opened closed ⌝ }
-{
-    if store == 0 {
-        return Interval::None;
-    }
-    if closed == 0 {
-        return Interval::Open(opened);
-    }
-    Interval::Closed(opened, closed)
-}
-
 // The persist interval of a byte, or 9 where the byte is past the window.
 pub fn ask(run: Run, byte: u16) -> Asked
     ensures { λ a. ⌜ a ≡ askOf run byte ⌝ }
@@ -129,7 +115,7 @@ pub fn ask(run: Run, byte: u16) -> Asked
     let store = run.stored[b];
     let opened = run.opened[b];
     let closed = run.closed[b];
-    Asked::Known(interval_from(store, opened, closed))
+    Asked::Known(tables::interval_from(store, opened, closed))
 }
 
 // The totals of a run, or 13 where a transaction is open. The run may go on.

@@ -38,6 +38,10 @@ recordsJudged [] n at s = result (closing s) s
 recordsJudged (p ∷ rest) n at s =
     afterAnswer (recordAnswer p s) n (recordGiven p at s) (recordsJudged rest (suc n) (at + findingSize) (recordGiven p at s))
 
--- so many records from a fresh window of so many lines, the first finding at the start of the buffer
+-- so many records, the first finding at the start of the buffer
+abbrev pub recordsGiven : (count : ℕ) (records : List ℕ) → Stage → Result
+recordsGiven count records s = recordsJudged (recordsOf count records) 1 0 s
+
+-- from a fresh window of so many lines
 abbrev pub allJudged : (count lines : ℕ) (records buffer : List ℕ) → Result
-allJudged count lines records buffer = recordsJudged (recordsOf count records) 1 0 (stage (emptyRun lines) buffer)
+allJudged count lines records buffer = recordsGiven count records (stage (emptyRun lines) buffer)

@@ -1,9 +1,10 @@
-// The tables of a run, its numbers, and the part of a range that the tables have.
+// The tables of a run, its numbers, a byte's interval from its entries, and the part of a range that the tables have.
+use event::Interval;
 use event::Range;
 ghost use mathlib.Core.Path.{_≡_};
 ghost use Prim.Native.Nat.{min};
 ghost use Rattle.tables.specs.Table.{inTables};
-ghost use Rattle.tables.specs.View.{noCounts, linesOf, beginAfter};
+ghost use Rattle.tables.specs.View.{noCounts, linesOf, beginAfter, intervalFrom};
 
 // The numbers of a run. Event numbers start at 1, and 0 stands for none.
 pub struct Counts {
@@ -63,6 +64,19 @@ pub fn begin_after(depth: u16, begin: u16, number: u16) -> u16
     ensures { λ r. ⌜ r ≡ beginAfter depth begin number ⌝ }
 {
     if depth == 0 { number } else { begin }
+}
+
+// A byte's interval, from its last store and the epochs at which the interval opened and closed.
+pub fn interval_from(store: u16, opened: u16, closed: u16) -> Interval
+    ensures { λ r. ⌜ r ≡ intervalFrom store opened closed ⌝ }
+{
+    if store == 0 {
+        return Interval::None;
+    }
+    if closed == 0 {
+        return Interval::Open(opened);
+    }
+    Interval::Closed(opened, closed)
 }
 
 // The part of a range that the tables have.

@@ -1,126 +1,30 @@
--- `pass::judge_records` meets its contract. The loop's invariant: the records that are left lead to where all of them lead from a
--- fresh window. The measure is how many are left. Assumes nothing.
+-- `pass::judge_records` meets its contract: the tables that it lends are those of a fresh window.
+-- Assumes nothing.
+use mathlib.Core.Path.{ap}
+use borrow.Author.Needs.{needs}
+use Rattle.record_step.specs.Step.{Stage}
+use Rattle.pass.proofs.Fresh.{fresh-check, fresh-stage}
 use Rattle.pass.proofs.judge_records.Statement.{statement}
 use Rattle.pass.proofs.judge_records.Tie as tie
-use mathlib.Core.Path.{_≡_, ap, _∙_}
-use Prim.Native.Nat.{_≤_, _-_}
-use native.Mathlib.Omega.{arith}
-use lib.ListN.{length}
-use borrow.Author.Needs.{needs}
-use Rattle.tables.specs.View.{runOf}
-use Rattle.engine.specs.Call.{emptyRun}
-use Rattle.record_step.specs.Step.{Stage, stage}
-use Rattle.pass.specs.Pass.{Result}
-use Rattle.pass.proofs.RecordsLeft.{leftJudged, refused-here, next-judged, all-left, closed-here}
 
-abbrev Inv-loop : tie.InvT-loop
-Inv-loop records count lines buffer₀ counts₀ stored₀ logged₀ opened₀ closed₀ dirtied₀ backed₀ i₀ buffer counts stored logged opened closed dirtied backed i =
-    (i ≤ count) × (length buffer ≡ length buffer₀) ×
-    (leftJudged records count i (stage (runOf counts stored logged opened closed dirtied backed) buffer) ≡
-    leftJudged records count 0 (stage (emptyRun lines) buffer₀))
-
-abbrev μ-loop : tie.MeasureT-loop
-μ-loop records count lines buffer₀ counts₀ stored₀ logged₀ opened₀ closed₀ dirtied₀ backed₀ i₀ buffer counts stored logged opened closed dirtied backed i =
-    count - i
-
--- the run and the buffer in the loop
-abbrev passed : tie.At-loop Inv-loop μ-loop → Stage
-passed c =
-    let k = c .loop in
-    stage (runOf (k .counts) (k .stored) (k .logged) (k .opened) (k .closed) (k .dirtied) (k .backed)) (k .buffer)
-
-no-counts-requires : tie.Need-no-counts-requires Inv-loop μ-loop
+no-counts-requires : tie.Need-no-counts-requires
 no-counts-requires c κs = search needs
 
-loop-holds : tie.Need-loop-holds Inv-loop μ-loop
-unfolding emptyRun
-loop-holds c = (omega arith, omega arith, rw (c .no-counts .ensures))
+give-records-requires : tie.Need-give-records-requires
+give-records-requires c κs = search needs
 
-add-number : tie.Need-add-number Inv-loop μ-loop
-add-number c = search needs
-
-record-at-requires : tie.Need-record-at-requires Inv-loop μ-loop
-record-at-requires c κs = search needs
-
-cast-judge-record : tie.Need-cast-judge-record Inv-loop μ-loop
-cast-judge-record c = search needs
-
-mul-judge-record : tie.Need-mul-judge-record Inv-loop μ-loop
-mul-judge-record c = search needs
-
-judge-record-requires : tie.Need-judge-record-requires Inv-loop μ-loop
-judge-record-requires c κs = search needs
-
-enum-known-answer : tie.Need-enum-known-answer Inv-loop μ-loop
-enum-known-answer c = search needs
-
-same-length : tie.Need-same-length Inv-loop μ-loop
+same-length : tie.Need-same-length
 same-length c = search needs
 
-returns : tie.Need-returns Inv-loop μ-loop
+returns : tie.Need-returns
 returns c =
-    let given = c .before .before .before .before .before .before .judge-record in
-    let w = c .before .before .before .before .before .before .before .before in
-    let turn = w .before .before .before .before .before .before .before in
-    let l = turn .before in
-    let k = l .before .before .before .before .args in
-    let all =
-    refused-here (k .records .now) (k .count) (l .loop .i) (passed l) (omega arith) (w .record-at .ensures) (given .ensures .0) (given .ensures .1)
-    (c .before .answer .given .1) ∙ l .loop .inv .2 ∙ all-left (k .records .now) (k .count) (stage (emptyRun (k .lines)) (k .buffer .now)) in
-    (ap (λ (e : Result). e .check) all, (ap (λ (e : Result). e .stage .run .counts) all, ap (λ (e : Result). e .stage .buffer) all))
-
-enum-told : tie.Need-enum-told Inv-loop μ-loop
-enum-told c = search needs
-
-loop-less : tie.Need-loop-less Inv-loop μ-loop
-loop-less c = search needs
-
-loop-again : tie.Need-loop-again Inv-loop μ-loop
-loop-again c =
-    let given = c .before .before .before .before .before .judge-record in
-    let w = c .before .before .before .before .before .before .before in
-    let turn = w .before .before .before .before .before .before .before in
-    let l = turn .before in
-    let k = l .before .before .before .before .args in (
-      omega arith,
-      given .kept .1 .1 .1 .1 .1 .1 .1 .1 .1 .0 ∙ l .loop .inv .1,
-      next-judged (k .records .now) (k .count) (l .loop .i) (passed l) (omega arith) (w .record-at .ensures) (given .ensures .0) (given .ensures .1)
-          (c .enum-told .given .1) ∙ l .loop .inv .2,
+    let e = c .before .before .give-records .ensures in
+    let n = c .before .before .before .before .before .before .before .before .before .before in
+    let k = n .before .before .before .args in
+    let end = fresh-stage (k .count) (k .lines) (k .records .now) (k .buffer .now) (n .no-counts .ensures) (e .1) in (
+      fresh-check (k .count) (k .lines) (k .records .now) (k .buffer .now) (n .no-counts .ensures) (e .0),
+      (ap (λ (s : Stage). s .run .counts) end, ap (λ (s : Stage). s .buffer) end),
     )
 
-close-requires : tie.Need-close-requires Inv-loop μ-loop
-close-requires c κs = search needs
-
-same-length-2 : tie.Need-same-length-2 Inv-loop μ-loop
-same-length-2 c = search needs
-
-returns-2 : tie.Need-returns-2 Inv-loop μ-loop
-returns-2 c =
-    let l = c .before .before .loop in
-    let k = c .before .before .before .before .before .before .args in
-    let fresh = stage (emptyRun (k .lines)) (k .buffer .now) in
-    let all = closed-here (k .records .now) (k .count) (l .i) fresh (passed (c .before .before)) (omega arith) (l .inv .2) in
-    (c .close .ensures ∙ ap (λ (e : Result). e .check) all, (ap (λ (e : Result). e .stage .run .counts) all, ap (λ (e : Result). e .stage .buffer) all))
-
 pub judge-records-spec : {M : Type 1} → statement M
-judge-records-spec =
-    tie.close
-    (tie.spec
-    Inv-loop
-    μ-loop
-    no-counts-requires
-    loop-holds
-    add-number
-    record-at-requires
-    cast-judge-record
-    mul-judge-record
-    judge-record-requires
-    enum-known-answer
-    same-length
-    returns
-    enum-told
-    loop-less
-    loop-again
-    close-requires
-    same-length-2
-    returns-2)
+judge-records-spec = tie.close (tie.spec no-counts-requires give-records-requires same-length returns)

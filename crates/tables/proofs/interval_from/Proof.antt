@@ -1,8 +1,8 @@
--- `engine::interval_from` meets its contract, by its tests.
+-- `tables::interval_from` meets its contract, by its tests.
 -- Assumes nothing.
 use Rattle.history.proofs.Interval.{if-some}
-use Rattle.engine.proofs.interval_from.Statement.{statement}
-use Rattle.engine.proofs.interval_from.Tie as tie
+use Rattle.tables.proofs.interval_from.Statement.{statement}
+use Rattle.tables.proofs.interval_from.Tie as tie
 
 returns : tie.Need-returns
 returns c = rw (c .if1 .taken)
