@@ -1,6 +1,6 @@
 /*
- * The judge of persistent-memory traces, the writer of traces, and the layout of findings for print,
- * for programs in C and C++.
+ * The judge of persistent-memory traces, the writer of traces, the layout of findings for print, and
+ * the mean exposure of traces, for programs in C and C++.
  * README.md says what a trace and a finding are. `rt staticlib pmjudge_c` builds the library,
  * target/staticlib/libpmjudge_c.a.
  *
@@ -59,7 +59,8 @@ enum pmjudge_refusal {
     PMJUDGE_TRANSACTION_OPEN = 13,    /* a transaction that is still open at the end */
     PMJUDGE_AREA_TOO_SHORT = 14,      /* a findings area under 12 bytes for each record */
     PMJUDGE_FILE_AREA_TOO_SHORT = 15, /* a writer's area without room for what a call puts there */
-    PMJUDGE_PAGE_AREA_TOO_SHORT = 16  /* a page area shorter than the pages */
+    PMJUDGE_PAGE_AREA_TOO_SHORT = 16, /* a page area shorter than the pages */
+    PMJUDGE_NO_BYTE_CLOSED = 17       /* a mean exposure where no byte is closed */
 };
 
 /* The kinds of event, with the ranges that each has. */
@@ -169,6 +170,25 @@ void pmjudge_writer_close(uint8_t *area, size_t area_length, const uint32_t writ
  */
 void pmjudge_pages(const uint8_t *findings, size_t findings_length, uint8_t *area,
                    size_t area_length, uint32_t answer[3]);
+
+/*
+ * The mean exposure of a trace: how many epochs its bytes stay at risk. A byte is open after its last
+ * store, and closed by the first fence after the first write-back of its line after that store. Its
+ * exposure is the number of fences after the store, up to and with that one: each begins an epoch.
+ * The exposures of all bytes of the window that are closed after the last event are summed, and the
+ * sum is divided by the number of these bytes. Bytes that are open, or were never stored to, are left
+ * out, and so is what happened to a byte before its last store.
+ *
+ * answer[0] is the refusal, PMJUDGE_ACCEPTED if there is none, and answer[1] the number of the
+ * record refused: from 1, and 0 if no record is meant. answer[2] to answer[4] are quotient, remainder
+ * and divisor; all 0 for a refused trace. The divisor is the number of bytes closed, and quotient *
+ * divisor + remainder the sum, with the remainder below the divisor; the mean is 1 at least. A trace
+ * is refused by the first number that applies: 1 to 5; then record by record 6 to 12; then 13; then
+ * 17.
+ *
+ * A call takes about 34 KB of the caller's stack: 33,024 bytes for tables, and little more.
+ */
+void pmjudge_exposure(const uint8_t *trace, size_t trace_length, uint32_t answer[5]);
 
 #ifdef __cplusplus
 }

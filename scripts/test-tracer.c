@@ -1,6 +1,7 @@
 /*
  * The calls of include/pmjudge.h: every refusal by its name, that a refused call changes nothing,
- * closing again, every finding by its name, and pages of findings. Prints what fails and the counts.
+ * closing again, every finding by its name, pages of findings, and mean exposures. Prints what
+ * fails and the counts.
  */
 #include <stdio.h>
 #include <string.h>
@@ -13,6 +14,7 @@ static uint8_t preamble[AREA], area[AREA], area_before[AREA], findings[PMJUDGE_M
 static uint8_t pages[PMJUDGE_MOST_PAGE_BYTES + 16], pages_before[PMJUDGE_MOST_PAGE_BYTES + 16];
 static uint8_t stored[PMJUDGE_FINDING_SIZE * (PMJUDGE_MOST_FINDINGS + 1)];
 static uint32_t writer[4], writer_before[4], answer[2], verdict[5], paged[3];
+static uint32_t exposed[7], exposed_before[7]; /* an answer with a number before and after it */
 static int passed, failed;
 
 static void expect(int line, int holds)
@@ -21,9 +23,12 @@ static void expect(int line, int holds)
         passed++;
     } else {
         failed++;
-        printf("failed: scripts/test-tracer.c:%d: answer %lu %lu, of pages %lu %lu %lu\n", line,
-               (unsigned long)answer[0], (unsigned long)answer[1], (unsigned long)paged[0],
-               (unsigned long)paged[1], (unsigned long)paged[2]);
+        printf("failed: scripts/test-tracer.c:%d: answer %lu %lu, of pages %lu %lu %lu, of a mean "
+               "exposure %lu %lu %lu %lu %lu\n",
+               line, (unsigned long)answer[0], (unsigned long)answer[1], (unsigned long)paged[0],
+               (unsigned long)paged[1], (unsigned long)paged[2], (unsigned long)exposed[1],
+               (unsigned long)exposed[2], (unsigned long)exposed[3], (unsigned long)exposed[4],
+               (unsigned long)exposed[5]);
     }
 }
 
@@ -80,6 +85,28 @@ static int judged(size_t length, size_t findings_length, enum pmjudge_refusal nu
 {
     pmjudge_judge(area, length, findings, findings_length, verdict);
     return verdict[0] == (uint32_t)number && verdict[1] == record;
+}
+
+/*
+ * Asks for the mean exposure of the area's first bytes; whether the answer is these five numbers,
+ * and neither the area nor what stands around the answer changed.
+ */
+static int exposure_is(size_t length, enum pmjudge_refusal number, uint32_t record,
+                       uint32_t quotient, uint32_t remainder, uint32_t divisor)
+{
+    memcpy(area_before, area, sizeof area);
+    memset(exposed, 0xa5, sizeof exposed);
+    memcpy(exposed_before, exposed, sizeof exposed);
+    pmjudge_exposure(area, length, exposed + 1);
+    return exposed[1] == (uint32_t)number && exposed[2] == record && exposed[3] == quotient &&
+           exposed[4] == remainder && exposed[5] == divisor && exposed[0] == exposed_before[0] &&
+           exposed[6] == exposed_before[6] && memcmp(area, area_before, sizeof area) == 0;
+}
+
+/* Whether a mean exposure is refused by this number at this record. */
+static int unexposed(size_t length, enum pmjudge_refusal number, uint32_t record)
+{
+    return exposure_is(length, number, record, 0, 0, 0);
 }
 
 static int writer_is(uint32_t lines, uint32_t offset, uint32_t count, uint32_t open)
@@ -175,9 +202,12 @@ static void longest(void)
     EXPECT(judged(PMJUDGE_MOST_BYTES, 0, PMJUDGE_AREA_TOO_SHORT, 0));
     EXPECT(judged(PMJUDGE_MOST_BYTES + 1, 0, PMJUDGE_TRACE_TOO_LONG, 0));
     EXPECT(judged(PMJUDGE_TRAILER_SIZE - 1, 0, PMJUDGE_TRACE_TOO_SHORT, 0));
+    EXPECT(unexposed(PMJUDGE_MOST_BYTES, PMJUDGE_NO_BYTE_CLOSED, 0));
+    EXPECT(unexposed(PMJUDGE_MOST_BYTES + 1, PMJUDGE_TRACE_TOO_LONG, 0));
+    EXPECT(unexposed(PMJUDGE_TRAILER_SIZE - 1, PMJUDGE_TRACE_TOO_SHORT, 0));
 }
 
-/* Refusals of a judge, by changed bytes of a trace of one fence in one line. */
+/* Refusals of a judge and of a mean exposure, by changed bytes of a trace of a fence in one line. */
 static void changed_bytes(void)
 {
     size_t length = PMJUDGE_RECORD_SIZE + PMJUDGE_TRAILER_SIZE;
@@ -203,6 +233,7 @@ static void changed_bytes(void)
         end_file(AREA);
         area[changes[change].at] = changes[change].byte;
         EXPECT(judged(length, 12, changes[change].number, changes[change].record));
+        EXPECT(unexposed(length, changes[change].number, changes[change].record));
     }
 }
 
@@ -352,6 +383,52 @@ static void damaged_findings(void)
     EXPECT(written(2 * PMJUDGE_PAGE_LINE_SIZE));
 }
 
+/* The bytes that are closed after their last store; 17 where there is none, after other refusals. */
+static void exposures(void)
+{
+    start(AREA, 5, 3);
+    end_file(AREA);
+    EXPECT(unexposed(answer[1], PMJUDGE_NO_BYTE_CLOSED, 0));
+    event(PMJUDGE_STORE, 128, 32);
+    event(PMJUDGE_WRITE_BACK, 128, 32);
+    end_file(AREA);
+    EXPECT(unexposed(answer[1], PMJUDGE_NO_BYTE_CLOSED, 0));
+    event(PMJUDGE_FENCE, 0, 0);
+    end_file(AREA);
+    EXPECT(exposure_is(answer[1], PMJUDGE_ACCEPTED, 0, 1, 0, 32));
+    event(PMJUDGE_STORE, 0, 8);
+    event(PMJUDGE_FENCE, 0, 0);
+    event(PMJUDGE_WRITE_BACK, 0, 8);
+    event(PMJUDGE_FENCE, 0, 0);
+    end_file(AREA);
+    EXPECT(exposure_is(answer[1], PMJUDGE_ACCEPTED, 0, 1, 8, 40));
+    event(PMJUDGE_STORE, 132, 28);
+    end_file(AREA);
+    EXPECT(exposure_is(answer[1], PMJUDGE_ACCEPTED, 0, 1, 8, 12));
+    event(PMJUDGE_STORE, 0, 192);
+    end_file(AREA);
+    EXPECT(unexposed(answer[1], PMJUDGE_NO_BYTE_CLOSED, 0));
+    area[5 + 8 * PMJUDGE_RECORD_SIZE] = PMJUDGE_END;
+    memset(area + 5 + 8 * PMJUDGE_RECORD_SIZE + 2, 0, 8);
+    EXPECT(unexposed(answer[1], PMJUDGE_NO_TRANSACTION, 9));
+}
+
+/* The most bytes, each stored to first and made durable by the last of the most records. */
+static void longest_exposure(void)
+{
+    uint16_t window = PMJUDGE_LINE_SIZE * PMJUDGE_MOST_LINES;
+    int record;
+    start(AREA, 0, PMJUDGE_MOST_LINES);
+    event(PMJUDGE_STORE, 0, window);
+    for (record = 0; record < PMJUDGE_MOST_RECORDS - 3; record++)
+        event(PMJUDGE_FENCE, 0, 0);
+    event(PMJUDGE_WRITE_BACK, 0, window);
+    event(PMJUDGE_FENCE, 0, 0);
+    end_file(AREA);
+    EXPECT(answer[1] == PMJUDGE_MOST_BYTES);
+    EXPECT(exposure_is(answer[1], PMJUDGE_ACCEPTED, 0, PMJUDGE_MOST_RECORDS - 2, 0, window));
+}
+
 int main(void)
 {
     size_t at;
@@ -370,6 +447,8 @@ int main(void)
     pages_of_nothing();
     longest_pages();
     damaged_findings();
+    exposures();
+    longest_exposure();
     printf("%d passed, %d failed\n", passed, failed);
     return failed != 0;
 }

@@ -18,10 +18,10 @@ use std::sync::atomic::{AtomicU64, Ordering::Relaxed};
 pub const TRACES: u64 = 200_000;
 
 /// The most records in a trace.
-const MAX_RECORDS: usize = (MAX_TRACE - TRAILER) / RECORD;
+pub const MAX_RECORDS: usize = (MAX_TRACE - TRAILER) / RECORD;
 
 /// The file in `target/` that takes a trace with a difference.
-const FILE: &str = "harness-difference.trace";
+pub const FILE: &str = "harness-difference.trace";
 
 /// A judge, and the name that it is reported with.
 #[derive(Clone, Copy)]
@@ -127,7 +127,7 @@ pub fn bytes(random: &mut Random, count: usize) -> Vec<u8> {
 }
 
 /// Trace `number` of a seed, with its findings area.
-fn given(seed: u64, number: u64) -> Given {
+pub fn given(seed: u64, number: u64) -> Given {
     let mut random = random_for(seed, number);
     let trace = drawn(&mut random);
     let area_len = area_length(&mut random, &trace);
@@ -135,7 +135,7 @@ fn given(seed: u64, number: u64) -> Given {
 }
 
 /// A trace, valid or damaged: mostly short, some long or near the longest, some of any bytes.
-fn drawn(random: &mut Random) -> Vec<u8> {
+pub fn drawn(random: &mut Random) -> Vec<u8> {
     let shape = shape(random);
     let (mut trace, most_damages) = match random.below(500) {
         0..=3 => (long(random), 1),

@@ -23,8 +23,8 @@ pub const STRINGS: u64 = 1_000_000;
 pub const LIMIT: Duration = Duration::from_secs(10);
 
 /// The files in `target/` that take a string.
-const BAD_FILE: &str = "harness-bad.trace";
-const HANG_FILE: &str = "harness-hang.trace";
+pub const BAD_FILE: &str = "harness-bad.trace";
+pub const HANG_FILE: &str = "harness-hang.trace";
 
 type Drawn = fn(&mut Random) -> Vec<u8>;
 
@@ -40,10 +40,19 @@ fn class_of(number: u64) -> usize {
     ((number - 1) % CLASSES.len() as u64) as usize
 }
 
+/// String `number` of a seed.
+pub fn string(seed: u64, number: u64) -> Vec<u8> {
+    drawn(&mut random_for(seed, number), number)
+}
+
+fn drawn(random: &mut Random, number: u64) -> Vec<u8> {
+    CLASSES[class_of(number)].1(random)
+}
+
 /// String `number` of a seed, with its findings area.
 fn given(seed: u64, number: u64) -> Given {
     let mut random = random_for(seed, number);
-    let string = CLASSES[class_of(number)].1(&mut random);
+    let string = drawn(&mut random, number);
     let area_len = area_length(&mut random, &string);
     Given::new(&mut random, string, area_len)
 }

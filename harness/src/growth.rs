@@ -1,10 +1,11 @@
-//! How the time to judge a trace grows with its records and with the bytes that they name, and the
-//! time to lay findings out with the rows.
+//! How the time to judge a trace grows with its records and with the bytes that they name, the time
+//! of an exposure with the records, and the time to lay findings out with the rows.
 
 use crate::bench::{best_times, how_measured, longest, number, ratio, thousands, Call, CHECKERS};
-use crate::pages;
 use crate::plain_pages::{self, length, MOST_FINDINGS};
+use crate::workloads::MOST;
 use crate::workloads::{durable_rounds, large_ordered, large_persisted, random_events, trace_of};
+use crate::{exposure, pages, plain};
 use reference::random::{Mix, Random};
 use reference::{Event, Finding, Kind, Range};
 
@@ -15,7 +16,7 @@ struct Series {
     traces: Vec<(u16, Vec<u8>)>,
 }
 
-/// A table for each series, and one of the pages.
+/// A table for each series, one of the exposures, and one of the pages.
 pub fn command() -> String {
     let all = series();
     let traces = all.iter().flat_map(|series| &series.traces);
@@ -26,7 +27,48 @@ pub fn command() -> String {
     let tables = all.iter().map(|series| table(series, &mut times));
     format!("µs a trace or a findings area, {how}; in brackets the ratio to the row before\n")
         + &tables.collect::<String>()
+        + &exposures_table()
         + &pages_table()
+}
+
+/// The exposures that are timed. They have no area.
+const EXPOSURES: [Call<[u32; 5]>; 2] = [
+    |trace, _| {
+        let mut answer = [0; 5];
+        exposure::exposure(trace, &mut answer);
+        answer
+    },
+    |trace, _| {
+        let mut answer = [0; 5];
+        plain::exposure(trace, &mut answer);
+        answer
+    },
+];
+
+/// Traces with records from 64 on, each time twice as many, up to the most.
+fn exposed_traces() -> Vec<(usize, Vec<u8>)> {
+    let twice = |&records: &usize| (records < MOST).then_some((2 * records).min(MOST));
+    let trace = |records| trace_of(random_events(&mut Random::new(1), records, 16, Mix::PLAIN));
+    std::iter::successors(Some(64), twice)
+        .map(|records| (records, trace(records)))
+        .collect()
+}
+
+fn exposures_table() -> String {
+    let traces = exposed_traces();
+    let inputs: Vec<&[u8]> = traces.iter().map(|(_, trace)| &trace[..]).collect();
+    let times = best_times(EXPOSURES, &inputs, 0);
+    let mut text =
+        "\nExposure of a trace, all kinds of event but transactions, ranges of up to 16 bytes:\n\n"
+            .to_string();
+    text += "| Records | exposure (proved) | plain Rust | proved / plain |\n";
+    text += "|--:|--:|--:|--:|\n";
+    let mut before = None;
+    for ((records, _), times) in traces.iter().zip(times) {
+        text += &format!("{}\n", row(*records as f64, times, before));
+        before = Some(times);
+    }
+    text
 }
 
 /// The layouts that are timed.
@@ -175,7 +217,7 @@ fn row(size: f64, times: [f64; 2], before: Option<[f64; 2]>) -> String {
 
 #[cfg(test)]
 mod tests {
-    use super::{findings_areas, series, LAYOUTS};
+    use super::{exposed_traces, findings_areas, series, EXPOSURES, LAYOUTS};
     use crate::plain_pages::length;
     use reference::{pages, Kind};
 
@@ -189,6 +231,24 @@ mod tests {
                 let any = report.findings.iter().any(|finding| broken(finding.kind));
                 assert!(at == 0 || !any, "{} {size}", series.title);
                 assert!(at > 0 || report.totals.events == usize::from(*size));
+            }
+        }
+    }
+
+    #[test]
+    fn every_trace_has_an_exposure_and_the_two_agree() {
+        let traces = exposed_traces();
+        assert_eq!(traces.first().map(|(records, _)| *records), Some(64));
+        assert_eq!(traces.last().map(|(records, _)| *records), Some(5_460));
+        for (records, trace) in traces {
+            let outcome = reference::judge(&trace, trace.len());
+            let report = outcome.report().expect("an accepted trace");
+            assert_eq!((report.lines, report.totals.events), (64, records));
+            let mean = reference::exposure(&trace).expect("bytes are closed");
+            let numbers = [0, 0, mean.quotient, mean.remainder, mean.divisor];
+            for call in EXPOSURES {
+                let answer = call(&trace, &mut []).map(|number| number as usize);
+                assert_eq!(answer, numbers, "{records} records");
             }
         }
     }

@@ -1,10 +1,13 @@
-//! The proved judge beside other checkers: compared on random traces, fuzzed, and timed; the proved
-//! writer, compared on random lists of calls; and the proved pages of findings, compared on random
-//! findings areas, fuzzed, and timed.
+//! The proved judge and the proved exposure beside other checkers: compared on random traces, fuzzed,
+//! and timed; the proved writer, compared on random lists of calls; and the proved pages of findings,
+//! compared on random findings areas, fuzzed, and timed.
 
 mod areas;
 mod bench;
 mod differential;
+mod exposing;
+mod exposure;
+mod exposure_fuzz;
 mod fuzz;
 mod growth;
 mod judge;
@@ -22,6 +25,7 @@ mod writer;
 mod writing;
 
 use differential::Judge;
+use exposing::Exposing;
 use printing::Layout;
 use std::io::{self, ErrorKind, Write};
 use std::process::ExitCode;
@@ -31,15 +35,18 @@ const HELP: &str = "\
 harness: the proved judge beside other checkers
 
 usage:
-  harness differential [TRACES [SEED]]   compare the judges with the unrelated checker on random
-                                         traces (200,000 of seed 1), the writer on as many
-                                         lists of calls, and the pages of as many findings areas
-  harness fuzz [STRINGS [SEED]]          give the proved judge arbitrary strings of bytes
-                                         (1,000,000 of seed 1), and the proved pages as many
+  harness differential [TRACES [SEED]]   compare the judges and the exposures with the unrelated
+                                         checker on random traces (200,000 of seed 1), the writer
+                                         on as many lists of calls, and the pages of as many
+                                         findings areas
+  harness fuzz [STRINGS [SEED]]          give the proved judge and the proved exposure arbitrary
+                                         strings of bytes (1,000,000 of seed 1), and the proved
+                                         pages as many
   harness bench [SVG]                    time the proved judge beside an implementation in plain Rust
                                          and a checker of ranges as PMTest has them; the plot goes to SVG
   harness growth                         time it against the records of a trace and the bytes named,
-                                         and the pages against their rows
+                                         the exposure against the records, and the pages against
+                                         their rows
   harness --help                         print this text
 
 TRACES and STRINGS are numbers from 1, SEED is a number; digits only.
@@ -58,6 +65,20 @@ const PLAIN: Judge = Judge {
 
 /// The judges that `differential` compares with the unrelated checker.
 const JUDGES: [Judge; 2] = [PROVED, PLAIN];
+
+const PROVED_EXPOSURE: Exposing = Exposing {
+    name: "proved",
+    call: exposure::exposure,
+};
+
+/// The exposures that `differential` compares with the unrelated one.
+const EXPOSURES: [Exposing; 2] = [
+    PROVED_EXPOSURE,
+    Exposing {
+        name: "plain",
+        call: plain::exposure,
+    },
+];
 
 /// The writer that `differential` compares with the unrelated one.
 const WRITER: Writer = Writer {
@@ -135,17 +156,19 @@ fn run(words: &[&str]) -> Result<String, Failure> {
     }
 }
 
-/// The judges on so many traces, the writer on as many lists of calls, and the layouts on as many
-/// findings areas.
+/// The judges and the exposures on so many traces, the writer on as many lists of calls, and the
+/// layouts on as many findings areas.
 fn compared(traces: u64, seed: u64) -> Result<String, String> {
     let text = differential::command(&JUDGES, traces, seed)?;
+    let text = text + &exposing::command(&EXPOSURES, traces, seed)?;
     let text = text + &writing::command(&WRITER, traces, seed)?;
     Ok(text + &printing::command(&LAYOUTS, traces, seed)?)
 }
 
-/// The judge on so many strings, and the pages on as many.
+/// The judge and the exposure on so many strings, and the pages on as many.
 fn fuzzed(strings: u64, seed: u64) -> Result<String, String> {
     let text = fuzz::command(&PROVED, strings, seed)?;
+    let text = text + &exposure_fuzz::command(&PROVED, &PROVED_EXPOSURE, strings, seed)?;
     Ok(text + &page_fuzz::command(&PROVED_PAGES, strings, seed)?)
 }
 

@@ -259,6 +259,45 @@ pub fn judge(trace: &[u8], area: &mut [u8]) -> Answer {
     }
 }
 
+/// The mean exposure of a trace. The answer is the refusal's number or 0, the record's number, and
+/// quotient, remainder and divisor.
+pub fn exposure(trace: &[u8], answer: &mut [u32; 5]) {
+    // A trace is longer than its findings, so it stands for an area of enough room.
+    *answer = match open(trace, trace) {
+        Ok(records) => mean(&records),
+        Err(Answer::Refused { number, record }) => [number, record, 0, 0, 0],
+        Err(accepted) => panic!("opening a trace answered {accepted:?}"),
+    };
+}
+
+/// The mean exposure of records, or 17. Only stores, write-backs and fences count, and are numbered here.
+fn mean(records: &Records) -> [u32; 5] {
+    let mut run = Run::new(records.lines);
+    // The count of fences by each event.
+    let mut epochs = vec![0];
+    for record in records.bytes.chunks_exact(RECORD) {
+        let event = read_event(record);
+        if let Event::Store(_) | Event::WriteBack(_) | Event::Fence = event {
+            let fences = epochs[usize::from(run.event)] + u32::from(event == Event::Fence);
+            epochs.push(fences);
+            run.give(event);
+        }
+    }
+    let (mut count, mut sum) = (0, 0);
+    let window = 0..records.lines * LINE;
+    let bytes = run.stored[window.clone()].iter().zip(&run.durable[window]);
+    for (&stored, &durable) in bytes {
+        if stored != 0 && durable != OPEN {
+            count += 1;
+            sum += epochs[usize::from(durable)] - epochs[usize::from(stored)];
+        }
+    }
+    match count {
+        0 => [17, 0, 0, 0, 0],
+        _ => [0, 0, sum / count, sum % count, count],
+    }
+}
+
 /// The place of the first entry that fits. Whole lines are passed over without a branch for each entry, so
 /// that this is vectorised.
 fn first(entries: &[u16], fits: impl Fn(u16) -> bool) -> Option<usize> {
@@ -579,6 +618,24 @@ pub mod tests {
             accepted += u32::from(compare(&trace, area_len));
         }
         assert!((10_000..19_000).contains(&accepted), "{accepted} accepted");
+    }
+
+    #[test]
+    fn exposures_are_those_of_the_reference() {
+        let mut random = Random::new(13);
+        let mut given = 0;
+        for _ in 0..20_000 {
+            let trace = random_trace(&mut random);
+            let mut answer = [u32::MAX; 5];
+            exposure(&trace, &mut answer);
+            let expected = match reference::exposure(&trace) {
+                Ok(mean) => [0, 0, mean.quotient, mean.remainder, mean.divisor],
+                Err(refusal) => [refusal.number.into(), refusal.record, 0, 0, 0],
+            };
+            assert_eq!(answer.map(|number| number as usize), expected, "{trace:?}");
+            given += u32::from(answer[0] == 0);
+        }
+        assert!((3_000..17_000).contains(&given), "{given} exposures");
     }
 
     #[test]

@@ -8,7 +8,7 @@ use reference::{Event, Range, Record};
 const LINE: u16 = event::LINE as u16;
 const WINDOW: u16 = MAX_LINES * LINE;
 /// The most records that a trace can have.
-const MOST: usize = (MAX_TRACE - TRAILER) / RECORD;
+pub const MOST: usize = (MAX_TRACE - TRAILER) / RECORD;
 
 /// A trace and what it stands for.
 pub struct Workload {

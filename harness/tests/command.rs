@@ -50,6 +50,8 @@ fn small_runs_print_the_same_counts_each_time() {
             "differential",
             [
                 "traces 500\n",
+                "\ntraces to the exposure 525\n",
+                "\nexposures compared with reference: proved, plain\nseed 7\ndiffer 0\n",
                 "\nlists of calls to the writer 500\n",
                 "\nfindings areas 500\n",
                 "\nlayouts compared with reference: proved, plain\nseed 7\ndiffer 0\n",
@@ -60,6 +62,8 @@ fn small_runs_print_the_same_counts_each_time() {
             [
                 "strings 500\n",
                 "\nbytes ",
+                "\nstrings to the exposure 500\n",
+                "\nexposure proved\nseed 7\nbad 0\n",
                 "\nstrings to the pages 500\n",
                 "\nlayout proved\nseed 7\nbad 0\n",
             ],

@@ -15,6 +15,7 @@
 //!   lost if the fence that makes its piece durable comes later, or never.
 
 use crate::event::{Event, Range, Record, LINE, MAX_DEPTH, MAX_EVENTS, MAX_WINDOW, WORD};
+use crate::exposure::Exposure;
 use crate::finding::{Finding, Kind};
 use crate::interval::Interval;
 use crate::outcome::Totals;
@@ -84,6 +85,22 @@ impl Line {
             Some(closing) => Interval::Closed(opened, closing.epoch),
             None => Interval::Open(opened),
         }
+    }
+
+    /// The number of bytes whose interval is closed, and the sum of their exposures: the epoch of the
+    /// closing less that of the last store.
+    fn exposure(&self) -> (usize, usize) {
+        let (mut count, mut sum) = (0, 0);
+        // Bytes whose last store is younger than the last write-back that a fence followed are open.
+        let durable = self.durable_before();
+        for (&store, &opened) in self.last.iter().zip(&self.opened) {
+            if (1..durable).contains(&store) {
+                let closing = self.closing_for(store).expect("the last closing is later");
+                count += 1;
+                sum += closing.epoch - opened;
+            }
+        }
+        (count, sum)
     }
 
     /// The lowest byte of the part whose last store is younger than the event.
@@ -189,6 +206,22 @@ impl Way for Run {
             events: self.events,
             fences: self.fences,
             found: self.found,
+        })
+    }
+
+    fn exposure(&self) -> Result<Exposure, u8> {
+        let (mut divisor, mut sum) = (0, 0);
+        for (count, exposures) in self.lines.iter().map(Line::exposure) {
+            divisor += count;
+            sum += exposures;
+        }
+        if divisor == 0 {
+            return Err(17);
+        }
+        Ok(Exposure {
+            quotient: sum / divisor,
+            remainder: sum % divisor,
+            divisor,
         })
     }
 }

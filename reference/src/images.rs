@@ -9,6 +9,7 @@
 //! and loses another, is read off the images of the one or two lines that hold them.
 
 use crate::event::{Event, Range, Record, LINE, MAX_DEPTH, MAX_EVENTS, WORD};
+use crate::exposure::Exposure;
 use crate::finding::{Finding, Kind};
 use crate::interval::Interval;
 use crate::outcome::Totals;
@@ -160,6 +161,28 @@ impl Way for History {
                 .count(),
         })
     }
+
+    /// By the words of the request, from the persist interval of each byte of the window. If that
+    /// takes few images, the intervals are read off them too, and have to be the same.
+    fn exposure(&self) -> Result<Exposure, u8> {
+        if self.effort_of_intervals() <= FEW_IMAGES {
+            self.check_intervals();
+        }
+        let intervals = (0..self.window()).map(|byte| self.interval(byte));
+        let exposures: Vec<usize> = intervals.filter_map(exposure_of).collect();
+        let (divisor, sum) = (exposures.len(), exposures.iter().sum::<usize>());
+        if divisor == 0 {
+            return Err(17);
+        }
+        // The first quotient that leaves a remainder below the divisor.
+        let left = |&quotient: &usize| sum - quotient * divisor < divisor;
+        let quotient = (0..).find(left).expect("the sum is finite");
+        Ok(Exposure {
+            quotient,
+            remainder: sum - quotient * divisor,
+            divisor,
+        })
+    }
 }
 
 impl History {
@@ -286,6 +309,71 @@ impl History {
             return Finding::of(Kind::Empty);
         }
         self.durable(n, &bytes)
+    }
+
+    // Persist intervals by crash images.
+
+    /// Each byte with a last store, and its persist interval: it is closed from the first fence on at
+    /// whose moment no allowed image loses the byte.
+    fn intervals_by_images(&self) -> Vec<(usize, Interval)> {
+        let stored = self.stored(self.records.len() + 1, 0..self.window());
+        let of_line = |bytes: &Vec<Stored>| self.intervals_of_line(bytes);
+        stored.iter().flat_map(of_line).collect()
+    }
+
+    /// The same for the bytes of one line.
+    fn intervals_of_line(&self, bytes: &[Stored]) -> Vec<(usize, Interval)> {
+        let opened = bytes.iter().map(|byte| self.epoch(byte.store));
+        let mut intervals: Vec<Interval> = opened.map(Interval::Open).collect();
+        let events = self.up_to(self.records.len());
+        let fences = events.filter(|&(_, event)| event == Event::Fence);
+        for ((moment, _), epoch) in fences.zip(1..) {
+            let lost = self.lost_at(moment, bytes);
+            for (place, interval) in intervals.iter_mut().enumerate() {
+                let is_lost = lost >> place & 1 == 1;
+                match *interval {
+                    Interval::Open(opened) if !is_lost => {
+                        *interval = Interval::Closed(opened, epoch);
+                    }
+                    Interval::Closed(..) => assert!(!is_lost, "moment {moment}: lost again"),
+                    _ => {}
+                }
+            }
+        }
+        let addresses = bytes.iter().map(|byte| byte.address);
+        addresses.zip(intervals).collect()
+    }
+
+    /// Those of the bytes, all on one line, that an image of the moment loses.
+    fn lost_at(&self, moment: usize, bytes: &[Stored]) -> Places {
+        let choices = self.choices(bytes[0].line(), moment);
+        choices
+            .iter()
+            .fold(0, |lost, left| lost | left.lost_of(bytes))
+    }
+
+    /// The intervals by images are those that the list gives.
+    fn check_intervals(&self) {
+        for (byte, interval) in self.intervals_by_images() {
+            assert_eq!(interval, self.interval(byte), "byte {byte}");
+        }
+    }
+
+    /// At least as many images as reading the intervals off them lists, times the bytes of a line.
+    fn effort_of_intervals(&self) -> u64 {
+        let stores = self
+            .up_to(self.records.len())
+            .filter_map(|(number, event)| match event {
+                Event::Store(a) => Some((number, a)),
+                _ => None,
+            });
+        let images = stores.flat_map(|(number, a)| {
+            let of_line = move |line| 1 + (1 << self.words_of(line, number).count_ones());
+            a.lines().map(of_line)
+        });
+        let images = images.fold(0, u64::saturating_add);
+        let fences = self.epoch(self.records.len()) as u64;
+        images.saturating_mul(fences).saturating_mul(LINE as u64)
     }
 
     // Crash images.
@@ -562,6 +650,14 @@ impl History {
     }
 }
 
+/// Closing epoch less opening epoch, if the interval is closed.
+fn exposure_of(interval: Interval) -> Option<usize> {
+    match interval {
+        Interval::Closed(opened, closed) => Some(closed - opened),
+        _ => None,
+    }
+}
+
 /// The bytes of a line.
 fn bytes_of(line: usize) -> std::ops::Range<usize> {
     line * LINE..(line + 1) * LINE
@@ -607,6 +703,9 @@ fn is_write_back_of(event: Event, line: usize) -> bool {
 pub const SMALL_RECORDS: usize = 128;
 /// The most bytes looked at, over all images of all assertions, as a matter of course.
 pub const SMALL_EFFORT: u64 = 100_000_000;
+
+/// The most bytes looked at, over all images of all fences, when an exposure is asked.
+const FEW_IMAGES: u64 = 100_000;
 
 /// Whether enumerating the images of the trace takes a fraction of a second: at most
 /// [`SMALL_RECORDS`] records, and at most [`SMALL_EFFORT`] bytes looked at. In each image these are
@@ -796,6 +895,86 @@ mod tests {
         assert_eq!(meant(4, 0), (1, vec![left(0, 1, 0), left(1, 0, 0)]));
         assert_eq!(meant(4, 64), (3, vec![left(0, 1, 0), left(1, 1, 0)]));
         assert_eq!(meant(64, 8), (2, vec![left(0, 2, 0), left(1, 0, 0)]));
+    }
+
+    /// The intervals of these bytes after the events, by images; the other bytes were never stored.
+    fn intervals_by_images(events: &str) -> Vec<(usize, Interval)> {
+        history(events).intervals_by_images()
+    }
+
+    #[test]
+    fn intervals_of_bytes_by_images() {
+        let (open, closed) = (Interval::Open, Interval::Closed);
+        assert_eq!(intervals_by_images("write-back 0/1; fence"), []);
+        let stored = intervals_by_images("fence; store 63/2; write-back 0/1");
+        assert_eq!(stored, [(63, open(1)), (64, open(1))]);
+        let fenced = intervals_by_images("fence; store 63/2; write-back 0/1; fence; fence");
+        assert_eq!(fenced, [(63, closed(1, 2)), (64, open(1))]);
+        let again = "store 0/2; write-back 0/1; fence; store 1/2; fence; write-back 0/1; fence";
+        let again = intervals_by_images(again);
+        assert_eq!(
+            again,
+            [(0, closed(0, 1)), (1, closed(1, 3)), (2, closed(1, 3))]
+        );
+        let between = intervals_by_images("store 0/2; write-back 0/1; store 1/1; fence");
+        assert_eq!(between, [(0, closed(0, 1)), (1, open(0))]);
+    }
+
+    /// Also of lists with too many images for every exposure that is asked.
+    #[test]
+    fn intervals_by_images_of_random_lists() {
+        let mut random = Random::new(32);
+        let (mut intervals, mut closed) = (0, 0);
+        for _ in 0..1_000 {
+            let shape = random::small_shape(&mut random);
+            let records = random::events(&mut random, &shape);
+            let history = History {
+                lines: usize::from(shape.lines),
+                records,
+                findings: Vec::new(),
+            };
+            for (byte, interval) in history.intervals_by_images() {
+                assert_eq!(interval, history.interval(byte), "{:?}", history.records);
+                intervals += 1;
+                closed += usize::from(matches!(interval, Interval::Closed(..)));
+            }
+        }
+        println!("{intervals} intervals by images, {closed} of them closed");
+        assert!(intervals > 5_000 && closed > 1_000, "{intervals} {closed}");
+    }
+
+    /// A list of 65,535 events, not given one by one.
+    #[test]
+    fn exposures_of_long_lists() {
+        let whole = Range::new(0, 4_096);
+        let last = Event::Store(Range::new(4_095, 1));
+        let written = [Event::WriteBack(whole), Event::Fence];
+        let first = [Event::Store(whole), Event::Fence];
+        let fences = |count| vec![Event::Fence; count];
+        for (events, expected) in [
+            (
+                [&first[..], &fences(65_531), &written].concat(),
+                [65_533, 0, 4_096],
+            ),
+            (
+                [&first[..], &[last], &fences(65_530), &written].concat(),
+                [65_531, 4_095, 4_096],
+            ),
+        ] {
+            assert_eq!(events.len(), MAX_EVENTS);
+            let record = |&event| Record { event, site: 0 };
+            let history = History {
+                lines: 64,
+                records: events.iter().map(record).collect(),
+                findings: Vec::new(),
+            };
+            let Exposure {
+                quotient,
+                remainder,
+                divisor,
+            } = history.exposure().expect("bytes are closed");
+            assert_eq!([quotient, remainder, divisor], expected);
+        }
     }
 
     /// The images of all lines concerned at once break the same pairs as those of one or two lines.

@@ -8,9 +8,9 @@
 //! - [`judge`] goes from event to event with what it knows of each line (module [`direct`]).
 //!
 //! Both read the trace file with the same code (module [`trace`]). Events can also be given singly,
-//! and the persist interval of a byte asked for (module [`singly`]). Module [`writer`] writes a
-//! trace file into an area, event by event. Module [`calls`] makes a file of calls on single events
-//! and of the writer, and the text of their answers.
+//! and the persist interval of a byte or the mean exposure of the run asked for (module
+//! [`singly`]). Module [`writer`] writes a trace file into an area, event by event. Module [`calls`]
+//! makes a file of calls on single events and of the writer, and the text of their answers.
 //!
 //! Module [`pages`] lays the findings of a findings area out for print, module [`read_back`] checks
 //! such pages, and module [`page_calls`] makes a file of calls of the pages and the text of their
@@ -21,6 +21,7 @@ pub mod check;
 pub mod corpus;
 pub mod direct;
 pub mod event;
+pub mod exposure;
 pub mod finding;
 pub mod images;
 pub mod interval;
@@ -35,6 +36,7 @@ pub mod trace;
 pub mod writer;
 
 pub use event::{Event, Range, Record};
+pub use exposure::Exposure;
 pub use finding::{Finding, Kind};
 pub use interval::Interval;
 pub use outcome::{area_after, findings_bytes, listing, Outcome, Refusal, Report, Totals};
@@ -55,6 +57,9 @@ pub trait Way {
 
     /// Closes the run. Refusal 13.
     fn close(&self) -> Result<Totals, u8>;
+
+    /// The mean exposure of the bytes whose interval is closed. Refusal 17, no byte is.
+    fn exposure(&self) -> Result<Exposure, u8>;
 }
 
 /// Judges a trace the direct way, for a findings area of `area_len` bytes.
@@ -77,22 +82,63 @@ pub fn judge_with<W: Way>(trace: &[u8], area_len: usize) -> Outcome {
     if area_len < trace::RECORD * body.count() {
         return Outcome::refused(14, 0);
     }
-    let mut way = W::fresh(body.lines);
-    let mut findings = Vec::with_capacity(body.count());
-    for (at, bytes) in body.record_bytes().enumerate() {
-        let taken = trace::decode(bytes, body.lines).and_then(|record| way.give(&record));
-        match taken {
-            Ok(finding) => findings.push(finding),
-            Err(number) => return Outcome::refused(number, at + 1),
-        }
-    }
-    match way.close() {
-        Ok(totals) => Outcome::Accepted(Report {
+    match Whole::<W>::of(&body) {
+        Ok(whole) => Outcome::Accepted(Report {
             lines: body.lines,
-            totals,
-            findings,
+            totals: whole.totals,
+            findings: whole.findings,
         }),
-        Err(number) => Outcome::refused(number, 0),
+        Err(refusal) => Outcome::Refused(refusal),
+    }
+}
+
+/// The mean exposure of the run after all events of a trace, the direct way. The trace is refused
+/// as the judge refuses it, 14 aside; 17 at 0 comes after that.
+pub fn exposure(trace: &[u8]) -> Result<Exposure, Refusal> {
+    exposure_with::<direct::Run>(trace)
+}
+
+/// The same from the list of events, which is judged by enumerating crash images: see
+/// [`images::small_enough`].
+pub fn exposure_by_images(trace: &[u8]) -> Result<Exposure, Refusal> {
+    exposure_with::<images::History>(trace)
+}
+
+/// The mean exposure of a trace in the given way.
+pub fn exposure_with<W: Way>(trace: &[u8]) -> Result<Exposure, Refusal> {
+    let at_0 = |number| Refusal { number, record: 0 };
+    let body = trace::open(trace).map_err(at_0)?;
+    Whole::<W>::of(&body)?.way.exposure().map_err(at_0)
+}
+
+/// The run after all events of a trace, with their findings and the totals at its closing.
+struct Whole<W> {
+    way: W,
+    findings: Vec<Finding>,
+    totals: Totals,
+}
+
+impl<W: Way> Whole<W> {
+    /// Gives the records of a trace to a fresh run, and closes it. Refusals 6 to 13.
+    fn of(body: &trace::Body) -> Result<Whole<W>, Refusal> {
+        let mut way = W::fresh(body.lines);
+        let mut findings = Vec::with_capacity(body.count());
+        for (at, bytes) in body.record_bytes().enumerate() {
+            let taken = trace::decode(bytes, body.lines).and_then(|record| way.give(&record));
+            let refusal = |number| Refusal {
+                number,
+                record: at + 1,
+            };
+            findings.push(taken.map_err(refusal)?);
+        }
+        let totals = way
+            .close()
+            .map_err(|number| Refusal { number, record: 0 })?;
+        Ok(Whole {
+            way,
+            findings,
+            totals,
+        })
     }
 }
 

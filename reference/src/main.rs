@@ -5,7 +5,8 @@ use reference::page_calls::PageCalls;
 use reference::pages::{self, Refused};
 use reference::script::Script;
 use reference::trace::{MAX_TRACE, RECORD};
-use reference::{check, corpus, findings_bytes, images, judge, judge_by_images, listing, Outcome};
+use reference::{check, corpus, exposure, exposure_by_images, findings_bytes, images};
+use reference::{judge, judge_by_images, listing, Exposure, Outcome, Refusal};
 use std::fs::File;
 use std::io::{self, ErrorKind, Read, Write};
 use std::path::Path;
@@ -27,12 +28,28 @@ usage:
   reference pages FINDINGS           print the pages of a findings area, or `refused N at P`
   reference page-calls CALLS ANSWERS
                                      write calls of the pages, and the text of their answers
+  reference exposure [--images] TRACE
+                                     print the mean exposure of a trace as `exposure Q R D`, its
+                                     quotient, remainder and divisor, or `refused N at R`
   reference --help                   print this text
 
-SCRIPT, FINDINGS and the TRACE of `judge` and `findings` may be `-` for standard input.
-`judge --images` enumerates crash images, for small traces.
+SCRIPT, FINDINGS and the TRACE of `judge`, `findings` and `exposure` may be `-` for standard input.
+`--images` enumerates crash images, for small traces.
 Exit status: 0 done, 1 a script differs, 2 bad usage or files.
 ";
+
+/// The commands that need arguments.
+const COMMANDS: [&str; 9] = [
+    "write",
+    "judge",
+    "check",
+    "corpus",
+    "calls",
+    "findings",
+    "pages",
+    "page-calls",
+    "exposure",
+];
 
 /// A line for standard error; the exit status is 2.
 type Failure = String;
@@ -71,13 +88,12 @@ fn run(words: &[&str]) -> Result<ExitCode, Failure> {
         ["findings", trace] => findings_command(trace),
         ["pages", findings] => pages_command(findings),
         ["page-calls", calls, answers] => page_calls_command(calls, answers),
+        ["exposure", "--images", trace] => exposure_command(trace, true),
+        ["exposure", trace] if *trace != "--images" => exposure_command(trace, false),
         [] => Err("reference: a command is missing; see `reference --help`".to_string()),
-        ["write" | "judge" | "check" | "corpus" | "calls" | "findings" | "pages" | "page-calls", ..] => {
-            Err(format!(
-                "reference {}: wrong arguments; see `reference --help`",
-                words[0]
-            ))
-        }
+        [command, ..] if COMMANDS.contains(command) => Err(format!(
+            "reference {command}: wrong arguments; see `reference --help`"
+        )),
         [word, ..] => Err(format!(
             "reference: no command `{word}`; see `reference --help`"
         )),
@@ -98,10 +114,36 @@ fn judged(name: &str, trace: &[u8], by_images: bool) -> Result<Outcome, Failure>
     if !by_images {
         return Ok(judge(trace, MAX_TRACE));
     }
-    if !images::small_enough(trace) {
-        return Err(format!("{name}: too many crash images to enumerate"));
-    }
+    few_images(name, trace)?;
     Ok(judge_by_images(trace, MAX_TRACE))
+}
+
+/// A failure if the trace has too many crash images.
+fn few_images(name: &str, trace: &[u8]) -> Result<(), Failure> {
+    if images::small_enough(trace) {
+        Ok(())
+    } else {
+        Err(format!("{name}: too many crash images to enumerate"))
+    }
+}
+
+fn exposure_command(name: &str, by_images: bool) -> Result<ExitCode, Failure> {
+    let trace = read_trace(name)?;
+    let answer = if by_images {
+        few_images(name, &trace)?;
+        exposure_by_images(&trace)
+    } else {
+        exposure(&trace)
+    };
+    let line = match answer {
+        Ok(Exposure {
+            quotient,
+            remainder,
+            divisor,
+        }) => format!("exposure {quotient} {remainder} {divisor}\n"),
+        Err(Refusal { number, record }) => format!("refused {number} at {record}\n"),
+    };
+    print(line.as_bytes())
 }
 
 fn check_command(names: &[&str]) -> Result<ExitCode, Failure> {

@@ -1,7 +1,8 @@
-//! The calls on a run, for any arguments: a fresh window, an event given singly, a byte asked, and
-//! a closing. The record's number in their refusals is 0.
+//! The calls on a run, for any arguments: a fresh window, an event given singly, a byte asked, a
+//! closing, and the mean exposure. The record's number in their refusals is 0.
 
 use crate::event::{Record, MAX_LINES};
+use crate::exposure::Exposure;
 use crate::finding::Finding;
 use crate::interval::Interval;
 use crate::outcome::{Refusal, Totals};
@@ -34,6 +35,11 @@ pub fn ask<W: Way>(run: &W, byte: usize) -> Result<Interval, Refusal> {
 /// Closes the run, which may go on after it. Refusal 13.
 pub fn close<W: Way>(run: &W) -> Result<Totals, Refusal> {
     run.close().map_err(refusal)
+}
+
+/// The mean exposure of the run so far, which does not change. Refusal 17.
+pub fn exposure<W: Way>(run: &W) -> Result<Exposure, Refusal> {
+    run.exposure().map_err(refusal)
 }
 
 fn refusal(number: u8) -> Refusal {

@@ -188,6 +188,42 @@ fn page_calls() {
 }
 
 #[test]
+fn exposure() {
+    let script = "lines 2\nstore 0/3\nwrite-back 0/3\nfence\nstore 64/4\nfence\nfence\n";
+    let closed = format!("{script}write-back 64/1\nfence\n");
+    let open = "lines 1\nstore 0/8\nwrite-back 0/8\n";
+    let ended_too_soon = "lines 1\nfence\nend\n";
+    let left_open = format!("{closed}begin\n");
+    for (script, printed) in [
+        // 3 bytes of 1 epoch, 4 of 3.
+        (&closed[..], "exposure 2 1 7\n"),
+        (script, "exposure 1 0 3\n"),
+        (open, "refused 17 at 0\n"),
+        (ended_too_soon, "refused 11 at 2\n"),
+        (&left_open, "refused 13 at 0\n"),
+    ] {
+        let trace = run(&["write", "-"], script.as_bytes()).stdout;
+        for args in [&["exposure", "-"][..], &["exposure", "--images", "-"]] {
+            let output = run(args, &trace);
+            assert_eq!(text(&output.stdout), printed, "{script}");
+            assert_eq!(output.status.code(), Some(0));
+            assert!(output.stderr.is_empty());
+        }
+    }
+    let trace = run(&["write", "-"], closed.as_bytes()).stdout;
+    let file = folder("exposure").join("trace");
+    std::fs::write(&file, &trace).expect("written");
+    let output = run(&["exposure", file.to_str().expect("text")], b"");
+    assert_eq!(text(&output.stdout), "exposure 2 1 7\n");
+    let output = run(&["exposure", "-"], &trace[1..]);
+    assert_eq!(text(&output.stdout), "refused 5 at 0\n");
+    let output = run(&["exposure", "-"], &vec![0; 200_000]);
+    assert_eq!(text(&output.stdout), "refused 2 at 0\n");
+    let output = run(&["exposure", "--images", "-"], b"");
+    assert_eq!(text(&output.stdout), "refused 1 at 0\n");
+}
+
+#[test]
 fn help() {
     let output = run(&["--help"], b"");
     assert_eq!(output.status.code(), Some(0));
@@ -200,6 +236,7 @@ fn help() {
         "findings",
         "pages",
         "page-calls",
+        "exposure",
         "--images",
     ];
     for word in words {
@@ -229,6 +266,10 @@ fn bad_usage() {
         &["pages", "a", "b"],
         &["page-calls", "a"],
         &["page-calls", "a", "b", "c"],
+        &["exposure"],
+        &["exposure", "--images"],
+        &["exposure", "a", "b"],
+        &["exposure", "--image", "a"],
     ] {
         fails(args, b"", "wrong arguments");
     }
@@ -240,7 +281,7 @@ fn bad_files() {
     let here = folder.to_str().expect("text").to_string();
     let missing = folder.join("missing").to_str().expect("text").to_string();
     let inside = folder.join("no/such").to_str().expect("text").to_string();
-    for command in ["judge", "write", "check", "findings", "pages"] {
+    for command in ["judge", "write", "check", "findings", "pages", "exposure"] {
         fails(&[command, &missing], b"", "missing: ");
         fails(&[command, &here], b"", "directory");
     }
@@ -250,5 +291,7 @@ fn bad_files() {
     fails(&["write", "-"], b"lines 2\n\xff", "-: not text in UTF-8");
     let many = "lines 64\n".to_string() + &"store 0/4096\n".repeat(129);
     let trace = run(&["write", "-"], many.as_bytes()).stdout;
-    fails(&["judge", "--images", "-"], &trace, "too many crash images");
+    for command in ["judge", "exposure"] {
+        fails(&[command, "--images", "-"], &trace, "too many crash images");
+    }
 }

@@ -1,10 +1,10 @@
-//! The two ways compared on all traces up to a length over an alphabet of events: the outcomes, and
-//! the persist intervals.
+//! The two ways compared on all traces up to a length over an alphabet of events: the outcomes, the
+//! persist intervals, and the mean exposures.
 
 use reference::direct::Run;
 use reference::images::History;
-use reference::{findings_with, judge, judge_by_images, script, trace, Event, Finding, Interval};
-use reference::{Kind, Outcome, Range, Record, Way};
+use reference::{findings_with, judge, judge_by_images, script, trace, Event, Exposure, Finding};
+use reference::{Interval, Kind, Outcome, Range, Record, Way};
 use std::ops::RangeInclusive;
 use std::sync::Mutex;
 
@@ -103,7 +103,17 @@ const INTERVALS: [Event; 7] = [
     Event::Fence,
 ];
 
-/// How often each kind of finding, each refusal and each kind of interval came up.
+/// Stores of several exposures on two lines, for longer histories.
+const EXPOSURES: [Event; 5] = [
+    Event::Store(r(61, 5)),
+    Event::Store(r(62, 1)),
+    Event::WriteBack(r(61, 5)),
+    Event::WriteBack(r(64, 1)),
+    Event::Fence,
+];
+
+/// How often each kind of finding, each refusal, each kind of interval and each sort of exposure
+/// came up.
 #[derive(Clone, Debug, Default)]
 struct Tally {
     traces: usize,
@@ -111,6 +121,8 @@ struct Tally {
     refused: [usize; 15],
     /// None, open, closed.
     intervals: [usize; 3],
+    /// Exposures that are refused, without a remainder, and with one.
+    exposures: [usize; 3],
     /// Pairs out of order that one store set on one line.
     torn: usize,
 }
@@ -138,12 +150,22 @@ impl Tally {
         self.intervals[at] += 1;
     }
 
+    fn add_exposure(&mut self, exposure: Result<Exposure, u8>) {
+        let at = match exposure {
+            Err(_) => 0,
+            Ok(Exposure { remainder: 0, .. }) => 1,
+            Ok(_) => 2,
+        };
+        self.exposures[at] += 1;
+    }
+
     fn join(&mut self, other: &Tally) {
         self.traces += other.traces;
         let kinds = self.kinds.iter_mut().zip(other.kinds);
         let refused = self.refused.iter_mut().zip(other.refused);
         let intervals = self.intervals.iter_mut().zip(other.intervals);
-        let sums = kinds.chain(refused).chain(intervals);
+        let exposures = self.exposures.iter_mut().zip(other.exposures);
+        let sums = kinds.chain(refused).chain(intervals).chain(exposures);
         sums.for_each(|(sum, more)| *sum += more);
         self.torn += other.torn;
     }
@@ -184,18 +206,43 @@ fn compare(records: &[Record]) -> Outcome {
     direct
 }
 
-/// Compares the intervals of every byte after the last event. Refused events are passed over.
+/// Compares the intervals of every byte after the last event, and the exposures with each other and
+/// with the intervals. Refused events are passed over.
 fn compare_intervals(records: &[Record], tally: &mut Tally) {
     let (mut direct, mut history) = (Run::fresh(LINES), History::fresh(LINES));
     for record in records {
         assert_eq!(direct.give(record), history.give(record), "{records:?}");
     }
     tally.traces += 1;
+    let (mut sum, mut count) = (0, 0);
     for byte in 0..direct.window() {
         let interval = direct.interval(byte);
         assert_eq!(interval, history.interval(byte), "{byte}: {records:?}");
         tally.add_interval(interval);
+        if let Interval::Closed(opened, closed) = interval {
+            assert!(opened < closed, "{byte}: {records:?}");
+            sum += closed - opened;
+            count += 1;
+        }
     }
+    let exposure = direct.exposure();
+    assert_eq!(exposure, history.exposure(), "{records:?}");
+    assert_mean(exposure, sum, count);
+    tally.add_exposure(exposure);
+}
+
+/// The exposure is the mean of a sum over so many bytes.
+fn assert_mean(exposure: Result<Exposure, u8>, sum: usize, count: usize) {
+    let Ok(exposure) = exposure else {
+        return assert_eq!((exposure, count), (Err(17), 0));
+    };
+    let Exposure {
+        quotient,
+        remainder,
+        divisor,
+    } = exposure;
+    assert!(remainder < divisor && quotient >= 1, "{exposure:?}");
+    assert_eq!((quotient * divisor + remainder, divisor), (sum, count));
 }
 
 /// Compares the outcomes of all traces of `front` and then `lengths` events of the alphabet.
@@ -302,6 +349,19 @@ fn intervals_up_to_seven_events() {
     assert_eq!(tally.traces, lists);
     assert_eq!(tally.intervals.iter().sum::<usize>(), 128 * lists);
     assert!(tally.intervals.iter().all(|&count| count > 0));
+    assert_eq!(tally.exposures.iter().sum::<usize>(), lists);
+    assert!(tally.exposures.iter().all(|&count| count > 4_000));
+}
+
+/// Fewer kinds of event behind a store and a fence, for exposures with a remainder.
+#[test]
+fn exposures_with_up_to_seven_events() {
+    let front = [Event::Store(r(61, 5)), Event::Fence];
+    let tally = for_all(&front, &EXPOSURES, 0..=7, compare_intervals);
+    let lists = 1 + 5 + 25 + 125 + 625 + 3_125 + 15_625 + 78_125;
+    assert_eq!(tally.traces, lists);
+    assert_eq!(tally.exposures.iter().sum::<usize>(), lists);
+    assert!(tally.exposures.iter().all(|&count| count > 3_000));
 }
 
 /// With assertions and transactions among the events, refused ones too.

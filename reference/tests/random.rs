@@ -5,7 +5,8 @@
 //! 24 bytes with orders between their parts. A trace with more to look at in its images than
 //! `images::SMALL_EFFORT` is passed over; the tests count those compared.
 //!
-//! Persist intervals are compared for every byte of the window after every event.
+//! Persist intervals are compared for every byte of the window after every event, and mean exposures
+//! after every event.
 
 use reference::direct::Run;
 use reference::images::History;
@@ -140,10 +141,13 @@ struct Intervals {
     lists: usize,
     compared: usize,
     closed: usize,
+    /// Exposures that are not refused, and those of them with a remainder.
+    exposures: usize,
+    remainders: usize,
 }
 
 impl Intervals {
-    /// Compares the intervals of every byte after each event of a list.
+    /// Compares the intervals of every byte, and the exposures, after each event of a list.
     fn compare(&mut self, lines: u16, records: &[Record]) {
         let (mut direct, mut history) = (Run::fresh(lines), History::fresh(lines));
         for record in records {
@@ -154,6 +158,11 @@ impl Intervals {
                 self.compared += 1;
                 self.closed += usize::from(matches!(interval, Interval::Closed(..)));
             }
+            let exposure = direct.exposure();
+            assert_eq!(exposure, history.exposure(), "{records:?}");
+            self.exposures += usize::from(exposure.is_ok());
+            let remainder = exposure.map_or(0, |exposure| exposure.remainder);
+            self.remainders += usize::from(remainder > 0);
         }
         self.lists += 1;
     }
@@ -179,6 +188,7 @@ fn intervals() {
     let intervals = compare_intervals(5, 4_000, random::small_shape);
     assert!(intervals.lists > 3_600);
     assert!(intervals.compared > 10_000_000 && intervals.closed > 50_000);
+    assert!(intervals.exposures > 10_000 && intervals.remainders > 1_000);
 }
 
 #[test]
@@ -192,6 +202,7 @@ fn intervals_of_long_lists() {
     });
     assert_eq!(intervals.lists, 400);
     assert!(intervals.compared > 5_000_000 && intervals.closed > 500_000);
+    assert!(intervals.exposures > 10_000 && intervals.remainders > 10_000);
 }
 
 #[test]

@@ -8,11 +8,15 @@ use reference::images::{self, History};
 use reference::random::{self, Random, Shape};
 use reference::script::Script;
 use reference::writer::Writer;
-use reference::{singly, Event, Finding, Interval, Kind, Range, Record, Refusal, Totals, Way};
+use reference::{singly, Event, Exposure, Finding, Interval, Kind, Range, Record, Refusal};
+use reference::{Totals, Way};
 use std::path::Path;
 
 /// The answers to the runs at the limits, under a line `run: NAME` for each run.
 const LIMITS: &str = include_str!("data/limits.txt");
+
+/// The answers to the runs with exposures, worked out by hand, in the same form.
+const EXPOSURES: &str = include_str!("data/exposure.txt");
 
 /// The site of the events given here.
 const SITE: u16 = 7;
@@ -108,6 +112,15 @@ fn totals_words(totals: Totals) -> String {
     format!("events {events} fences {fences} findings {found}")
 }
 
+fn exposure_words(exposure: Exposure) -> String {
+    let Exposure {
+        quotient,
+        remainder,
+        divisor,
+    } = exposure;
+    format!("quotient {quotient} remainder {remainder} divisor {divisor}")
+}
+
 fn give<W: Way>(run: &mut W, event: Event) -> Result<Finding, Refusal> {
     singly::give(run, &Record { event, site: SITE })
 }
@@ -117,6 +130,7 @@ fn call<W: Way>(run: &mut W, words: &[&str]) -> String {
     match words {
         ["ask", byte] => answer(singly::ask(run, number(byte)), interval_words),
         ["close"] => answer(singly::close(run), totals_words),
+        ["exposure"] => answer(singly::exposure(run), exposure_words),
         _ => answer(give(run, event(words)), finding_words),
     }
 }
@@ -332,13 +346,18 @@ fn edge_event(random: &mut Random) -> Event {
     random.pick(&kinds)
 }
 
-/// The answers of the calls that change nothing: the closing, and each byte asked.
-type Answers = (Result<Totals, Refusal>, Vec<Result<Interval, Refusal>>);
+/// The answers of the calls that change nothing: the closing, the exposure, and each byte asked.
+type Answers = (
+    Result<Totals, Refusal>,
+    Result<Exposure, Refusal>,
+    Vec<Result<Interval, Refusal>>,
+);
 
 fn answers<W: Way>(run: &W) -> Answers {
     let bytes = 0..run.window() + 2;
     let intervals = bytes.map(|byte| singly::ask(run, byte));
-    (singly::close(run), intervals.collect())
+    let (closing, exposure) = (singly::close(run), singly::exposure(run));
+    (closing, exposure, intervals.collect())
 }
 
 /// Gives the events to a fresh run. A refused one must not change any answer.
@@ -464,6 +483,7 @@ fn bytes_of_calls() {
             Call::Fences(30_000),
             [19, 0, 48, 117, 0, 0, 0, 0, 0, 0, 0, 0],
         ),
+        (Call::Exposure, [20, 0, 0, 0, 0, 0, 0, 0, 0, 0, 0, 0]),
     ];
     for (call, bytes) in written {
         assert_eq!(call.to_bytes(), bytes);
@@ -476,15 +496,15 @@ fn kinds_and_fields_of_calls() {
     for kind in 0..=255 {
         let mut bytes = [0; 12];
         bytes[0] = kind;
-        let known = matches!(kind, 1..=8 | 16..=19 | 32..=37 | 64..=127);
+        let known = matches!(kind, 1..=8 | 16..=20 | 32..=37 | 64..=127);
         assert_eq!(Call::from_bytes(&bytes).is_some(), known, "kind {kind}");
     }
-    for kind in (16..=19).chain(32..=37).chain(64..=127) {
+    for kind in (16..=20).chain(32..=37).chain(64..=127) {
         for at in 1..12 {
             let mut bytes = [0; 12];
             (bytes[0], bytes[at]) = (kind, 1);
             let has = match kind {
-                18 | 36 => false,
+                18 | 20 | 36 => false,
                 16..=19 | 35 => (2..4).contains(&at),
                 // 65,536 bytes are in the bounds, 2^24 are not.
                 32 | 34 => (2..5).contains(&at),
@@ -594,6 +614,9 @@ fn calls_cover_every_answer() {
     for sort in [Sort::NoInterval, Sort::Open, Sort::Closed, Sort::OpenAgain] {
         some("ask", sort, 100);
     }
+    for sort in [Sort::Whole, Sort::WithRemainder, Sort::Refused(17)] {
+        some("exposure", sort, 50);
+    }
     let both = made.entries.iter().filter(|entry| entry.both_ways).count();
     assert!(both >= 150, "{both} runs both ways");
 }
@@ -632,10 +655,10 @@ fn calls_stay_in_their_bounds() {
     let made = build();
     let of_writer = made.calls().filter(|call| call.is_of_writer()).count();
     let on_runs = made.calls().count() - of_writer;
-    assert!((5_000..=12_000).contains(&on_runs), "{on_runs}");
+    assert!((5_000..=13_000).contains(&on_runs), "{on_runs}");
     assert!((2_000..=4_000).contains(&of_writer), "{of_writer}");
-    assert!(made.to_bytes().len() <= 180_000);
-    assert!(made.text().len() <= 460_000);
+    assert!(made.to_bytes().len() <= 195_000);
+    assert!(made.text().len() <= 500_000);
     for entry in &made.entries {
         let (first, others) = entry.case.calls.split_first().expect("a run has calls");
         if entry.case.is_of_writer() {
@@ -705,6 +728,48 @@ fn runs_written_by_hand() {
         assert_eq!(group_lines::<Run>(&made, group), expected);
         assert_eq!(group_lines::<History>(&made, group), expected);
     }
+}
+
+/// The runs with exposures: those of few events both ways, all of them the direct way.
+#[test]
+fn exposures_written_by_hand() {
+    let made = build();
+    let expected = answers_of(EXPOSURES);
+    assert_eq!(expected.len(), 435);
+    let (few, many) = ("exposure", "exposure long");
+    let lines = [
+        group_lines::<Run>(&made, few),
+        group_lines::<Run>(&made, many),
+    ];
+    assert_eq!(lines.concat(), expected);
+    assert_eq!(group_lines::<History>(&made, few), lines[0]);
+    let both = |group: &str| {
+        let mut entries = made.entries.iter();
+        entries.all(|entry| entry.case.group != group || entry.both_ways)
+    };
+    assert!(both(few));
+}
+
+/// Exposures in between change no other answer.
+#[test]
+fn exposures_change_nothing() {
+    let made = build();
+    let mut asked = 0;
+    for entry in made
+        .entries
+        .iter()
+        .filter(|entry| entry.case.group.starts_with("exposure"))
+    {
+        let is_exposure = |call: &Call| matches!(call, Call::Exposure);
+        let calls = entry.case.calls.iter();
+        let others: Vec<Call> = calls.clone().copied().filter(|c| !is_exposure(c)).collect();
+        let kept = calls.zip(&entry.answers).filter(|(c, _)| !is_exposure(c));
+        let kept: Vec<Option<Answer>> = kept.map(|(_, answer)| answer.clone()).collect();
+        assert_eq!(calls::answers::<Run>(&others), kept, "{:?}", entry.case);
+        asked += entry.case.calls.len() - others.len();
+    }
+    println!("{asked} exposures");
+    assert!(asked > 500, "{asked}");
 }
 
 /// The findings of the request's small runs and of its whole run, as the request has them.

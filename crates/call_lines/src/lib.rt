@@ -9,6 +9,7 @@ use event::Interval;
 use event::Range;
 use event::Refusal;
 use event::numbers;
+use exposure::Exposed;
 use file::Closed;
 use file::Started;
 use libc::STDOUT_FILENO;
@@ -136,6 +137,24 @@ pub fn closed(c: Closing) {
             field(b"events ", events);
             field(b" fences ", fences);
             field(b" findings ", findings);
+            words(b"\n");
+        }
+    }
+}
+
+// The mean exposure.
+pub fn exposed(e: Exposed) {
+    words(b"exposure: ");
+    match e {
+        Exposed::Refused(x) => refused(x),
+        Exposed::Mean {
+            quotient,
+            remainder,
+            divisor,
+        } => {
+            field(b"quotient ", quotient);
+            field(b" remainder ", remainder);
+            field(b" divisor ", divisor);
             words(b"\n");
         }
     }

@@ -1,24 +1,24 @@
 -- The run after events given from a fresh window, and what it answers: what the accepted events say.
-use mathlib.Core.Path.{_≡_, refl, sym, _∙_}
+use mathlib.Core.Path.{_≡_, refl, sym, ap, _∙_}
 use mathlib.Core.Bool.{Bool, true, false, cond, _||_}
 use mathlib.Core.Logic.{_⊎_, inl, inr}
 use mathlib.Core.List.{List, []}
-use Prim.Native.Nat.{ℕ, _≤_}
+use Prim.Native.Nat.{ℕ, _+_, _≤_, _<_}
 use native.Mathlib.Omega.{arith}
 use lib.Dec.{eqb, ltb}
 use lib.ListN.{length}
-use borrow.Author.Tests.{ltb-false}
+use borrow.Author.Tests.{ltb-false, lt-ltb, le-ltb}
 use Rattle.event.specs.declared.Record.{Record}
 use Rattle.event.specs.declared.Refusal.{Refusal}
-use Rattle.event.specs.declared.Refusal.the-variants.{BadLines}
+use Rattle.event.specs.declared.Refusal.the-variants.{BadLines, PastWindow}
 use Rattle.event.specs.declared.Check.{Check}
 use Rattle.event.specs.declared.Check.the-variants.{Passed, Refused as Breaks}
 use Rattle.event.specs.declared.Answer.the-variants.{Refused, Found}
 use Rattle.event.specs.Reply.{Reply}
-use Rattle.window.specs.Window.{mostLines}
-use Rattle.history.specs.Interval.{epochAt}
+use Rattle.window.specs.Window.{mostLines, windowBytes}
+use Rattle.history.specs.Interval.{epochAt, intervalOf}
 use Rattle.history.specs.Transaction.{depth}
-use Rattle.history.specs.View.{ofHistory}
+use Rattle.history.specs.View.{View, ofHistory}
 use Rattle.history.specs.Refused.{Limit, limitsBy, First, NoneBroken}
 use Rattle.history.specs.Found.{findingBy}
 use Rattle.history.specs.Given.{windowFor, windowOf, RefusedBy, Accepted, answers, reported}
@@ -27,8 +27,9 @@ use Rattle.history.proofs.Given.{Checked, checked, answer-refused, answer-found
 use Rattle.history.proofs.Meaning.Accepted.{Taken, accepted-taken}
 use Rattle.tables.specs.View.{ofRun}
 use Rattle.events.specs.Give.{giveOf}
+use Rattle.engine.specs.declared.Asked.the-variants.{Refused as AskRefused, Known}
 use Rattle.engine.specs.declared.Closing.the-variants.{Totals}
-use Rattle.engine.specs.Call.{closeOf}
+use Rattle.engine.specs.Call.{askOf, closeOf}
 use Rattle.engine.specs.Tracks.{Tracks}
 use Rattle.engine.proofs.Histories.{taken-inside}
 use Rattle.engine.proofs.Answered.{Answered, answered}
@@ -95,6 +96,17 @@ module _ (asked : ℕ) (given : List Record) where
           giveOf (runFrom asked given) r .answer ≡ Found (findingBy (ofHistory (windowOf asked) (takenFrom asked given)) (r .event))
       go (Answered.refused a g) = let z : _≡_ {A = ℕ} 0 1 = cc (answer-found (windowOf asked) (takenFrom asked given) r k) in absurd (omega arith)
       go (Answered.found t a g) = rw g (sym a ∙ answer-found (windowOf asked) (takenFrom asked given) r k)
+
+  -- a byte asked
+  lines-viewed : ofRun (runFrom asked given) .lines ≡ windowOf asked
+  lines-viewed = ap (λ (v : View). v .lines) viewed
+
+  pub byte-refused : (byte : ℕ) → windowBytes (windowOf asked) ≤ byte → askOf (runFrom asked given) byte ≡ AskRefused PastWindow
+  byte-refused byte k = rw (lines-viewed, lt-ltb (windowBytes (windowOf asked)) (byte + 1) (omega arith))
+
+  pub byte-known : (byte : ℕ) → byte < windowBytes (windowOf asked) → askOf (runFrom asked given) byte ≡ Known (intervalOf (takenFrom asked given) byte)
+  byte-known byte k =
+      rw (lines-viewed, le-ltb (windowBytes (windowOf asked)) (byte + 1) (omega arith)) (ap (λ (v : View). Known (v .interval byte)) viewed)
 
   -- the totals at closing
   pub closing-totals : let h = takenFrom asked given in depth h ≡ 0 →

@@ -1,4 +1,4 @@
--- Bytes asked and closings between the events change nothing.
+-- Bytes asked, closings and mean exposures between the events change nothing.
 use mathlib.Core.Path.{_≡_, refl}
 use mathlib.Core.List.{List, [], _∷_}
 use Rattle.tables.specs.declared.Run.{Run}
@@ -12,3 +12,4 @@ called-after run [] = refl
 called-after run (Call.gives r ∷ calls) = called-after (giveOf run r .run) calls
 called-after run (Call.asks byte ∷ calls) = called-after run calls
 called-after run (Call.closes ∷ calls) = called-after run calls
+called-after run (Call.exposes ∷ calls) = called-after run calls

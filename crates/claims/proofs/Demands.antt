@@ -2,19 +2,19 @@
 use mathlib.Core.Path.{_≡_, refl, sym, ap, _∙_}
 use mathlib.Core.Logic.{_≢_, _⊎_, inl, inr}
 use mathlib.Core.List.{List, [], map}
-use Prim.Native.Nat.{ℕ, _+_, _≤_, _<_}
+use Prim.Native.Nat.{ℕ, _≤_, _<_}
 use native.Mathlib.Omega.{arith}
 use borrow.Author.Tests.{eq-eqb, ne-eqb, lt-ltb, le-ltb}
 use Rattle.event.specs.declared.Record.{Record}
 use Rattle.event.specs.declared.Finding.{Finding}
 use Rattle.event.specs.declared.Refusal.{Refusal}
-use Rattle.event.specs.declared.Refusal.the-variants.{PastWindow, TransactionOpen}
+use Rattle.event.specs.declared.Refusal.the-variants.{TransactionOpen}
 use Rattle.event.specs.Reply.{Reply, findingValues, answerReply}
-use Rattle.window.specs.Window.{mostLines, windowBytes}
+use Rattle.window.specs.Window.{mostLines}
 use Rattle.records.specs.Record.{recordOf, readReply}
 use Rattle.records.proofs.RoundTrip.{read-values}
 use Rattle.history.specs.Interval.{intervalOf}
-use Rattle.history.specs.View.{View, ofHistory}
+use Rattle.history.specs.View.{ofHistory}
 use Rattle.history.specs.Found.{findingBy}
 use Rattle.history.specs.Claim.{Claim}
 use Rattle.history.specs.Transaction.{depth}
@@ -26,11 +26,11 @@ use Rattle.history.proofs.Exactly.{claimed as claim-of, persisted-holds, ordere
 use Rattle.history.proofs.Small.{small-runs}
 use Rattle.events.specs.declared.Given.{Given}
 use Rattle.events.specs.Give.{giveOf}
-use Rattle.tables.specs.View.{ofRun}
-use Rattle.engine.specs.declared.Asked.the-variants.{Refused as AskRefused, Known}
 use Rattle.engine.specs.declared.Closing.the-variants.{Refused as CloseRefused}
-use Rattle.engine.specs.Call.{emptyRun, freshOf, askOf, closeOf}
+use Rattle.engine.specs.Call.{emptyRun, freshOf, closeOf}
 use Rattle.engine.specs.Reply.{windowReply, givenReply, askedReply, closingReply}
+use Rattle.exposure.specs.Exposure.{exposureReply}
+use Rattle.exposure.proofs.Meaning.{none-closed, some-closed}
 use Rattle.trailer.specs.Trailer.{trailerOf}
 use Rattle.trace.specs.Records.{recordPart, linesIn}
 use Rattle.claims.specs.After.{runFrom, takenFrom, repliesFrom}
@@ -38,8 +38,10 @@ use Rattle.claims.specs.Demand1.{Demand1}
 use Rattle.claims.specs.Demand2.{Demand2}
 use Rattle.claims.specs.Demand3.{Demand3}
 use Rattle.claims.proofs.Paper.{persist-interval}
-use Rattle.claims.proofs.Answers.{limited, tracked, viewed, same, inside, decided, refused, taken, closing-totals, not-refused}
+use Rattle.claims.proofs.Answers.{limited, tracked, same, inside, decided, refused, taken, byte-refused, byte-known, closing-totals, not-refused}
 use Rattle.claims.proofs.Calls.{called-after}
+use Rattle.claims.proofs.Exposed.{same-exposure}
+use Rattle.claims.proofs.TraceExposed.{not-a-trace, record-stops, left-open, none-exposed, some-exposed}
 use Rattle.claims.proofs.Records.{read-refused, read-taken}
 use Rattle.claims.proofs.Paging.{pages-refused, damage-refused, damage-decided, room-refused, pages-taken}
 use Rattle.claims.proofs.Traces.{records-decided, trailer-refused, trailer-taken, trace-refused, record-refused, trace-open, trace-taken}
@@ -58,17 +60,6 @@ window-taken : (asked : ℕ) → 1 ≤ asked → asked ≤ mostLines →
 window-taken asked low high = rw (ne-eqb asked 0 (λ z. omega (arith, low, z)), le-ltb 64 asked high) (refl, refl)
 
 module _ (asked : ℕ) (given : List Record) where
-  -- a byte asked
-  lines-viewed : ofRun (runFrom asked given) .lines ≡ windowOf asked
-  lines-viewed = ap (λ (v : View). v .lines) (viewed asked given)
-
-  byte-refused : (byte : ℕ) → windowBytes (windowOf asked) ≤ byte → askOf (runFrom asked given) byte ≡ AskRefused PastWindow
-  byte-refused byte k = rw (lines-viewed, lt-ltb (windowBytes (windowOf asked)) (byte + 1) (omega arith))
-
-  byte-known : (byte : ℕ) → byte < windowBytes (windowOf asked) → askOf (runFrom asked given) byte ≡ Known (intervalOf (takenFrom asked given) byte)
-  byte-known byte k =
-      rw (lines-viewed, le-ltb (windowBytes (windowOf asked)) (byte + 1) (omega arith)) (ap (λ (v : View). Known (v .interval byte)) (viewed asked given))
-
   -- a closing
   closing-refused : depth (takenFrom asked given) ≢ 0 → closeOf (runFrom asked given) ≡ CloseRefused TransactionOpen
   closing-refused d = rw (tracked asked given .nesting, ne-eqb (depth (takenFrom asked given)) 0 d)
@@ -136,6 +127,15 @@ demand1 =
       pageRoomNumbers = λ room size. refl;
       pageRoomRefused = λ area text whole sound k. room-refused area text whole sound k;
       pagesTaken = pages-taken;
+      exposureRefused = λ asked given none. ap exposureReply (same-exposure asked given ∙ none-closed (windowOf asked) (intervalOf (takenFrom asked given)) none);
+      exposureTaken = λ asked given b opening closing number at k e. not-refused
+          (ap exposureReply (same-exposure asked given) ∙ some-closed (windowOf asked) (intervalOf (takenFrom asked given)) b opening closing k e .1);
+      exposureFileNumbers = λ trace. refl;
+      exposureFileRefused = not-a-trace;
+      exposureRecordRefused = λ trace k t. record-stops trace k t;
+      exposureOpen = λ trace k t d. left-open trace k t d;
+      exposureNone = λ trace k t d none. none-exposed trace k t d none;
+      exposureSome = λ trace b opening closing number at k t d inside e. some-exposed trace k b opening closing number at t d inside e;
     }
 
 pub demand2 : Demand2

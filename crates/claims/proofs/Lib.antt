@@ -18,4 +18,6 @@ pub mod Written  -- request 1 holds
 pub mod Fits  -- the findings of an accepted trace are bytes
 pub mod Paged  -- request 3 holds
 pub mod TracePages  -- the findings of an accepted trace, laid out
+pub mod Exposed  -- the mean exposure of a run
+pub mod TraceExposed  -- the mean exposure of a trace; request 4 holds
 pub mod Demands  -- the demands hold

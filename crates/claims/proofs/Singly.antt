@@ -47,7 +47,7 @@ use Rattle.claims.proofs.Area.{accepts-events, accepts-accepted, placed
 
 module _ (lines : ℕ) (passed : linesCheck lines ≡ Passed) where
   -- a window that is not refused has the lines asked for
-  asked-lines : windowOf lines ≡ lines
+  pub asked-lines : windowOf lines ≡ lines
   asked-lines = ap (λ (c : Check). windowFor c lines) passed
 
   -- so the accepted events in that many lines give the finding of an event and the totals
@@ -70,14 +70,14 @@ module _ (lines : ℕ) (passed : linesCheck lines ≡ Passed) where
       (λ d. closing-totals lines given d ∙ (rw (same lines given)))
 
 -- no limit is broken, the records are all taken, and no transaction is open then
-record AllTaken (trace area : List ℕ) : Type 0 where
-  limits : NoneBroken (traceLimits trace area)
-  history : History
-  takes : TakesAll trace history
-  closed : depth history ≡ 0
+pub record AllTaken (trace area : List ℕ) : Type 0 where
+  pub limits : NoneBroken (traceLimits trace area)
+  pub history : History
+  pub takes : TakesAll trace history
+  pub closed : depth history ≡ 0
 
 -- so it is with an accepted trace
-all-taken : (trace area totals : List ℕ) → verdictReply (verdictOf trace area) ≡ Reply.values totals → AllTaken trace area
+pub all-taken : (trace area totals : List ℕ) → verdictReply (verdictOf trace area) ≡ Reply.values totals → AllTaken trace area
 all-taken trace area totals e = go (limited (traceLimits trace area)) (records-decided (linesIn trace) 1 [] _ _)
   where
     close : (h : History) → NoneBroken (traceLimits trace area) → TakesAll trace h → Dec (depth h ≡ 0) → AllTaken trace area
@@ -91,7 +91,7 @@ all-taken trace area totals e = go (limited (traceLimits trace area)) (records-d
     go (inr k) (inr (h, t)) = close h k t (decEq (depth h) 0)
 
 -- limit 4 is not broken: the window is not refused
-window-passed : (trace area : List ℕ) → NoneBroken (traceLimits trace area) → linesCheck (linesIn trace) ≡ Passed
+pub window-passed : (trace area : List ℕ) → NoneBroken (traceLimits trace area) → linesCheck (linesIn trace) ≡ Passed
 window-passed trace area (NoneBroken.cons a (NoneBroken.cons b (NoneBroken.cons c (NoneBroken.cons d e)))) =
     ap (λ (t : Bool). cond t (Breaks BadLines) Passed) (window-lines (trailerOf trace) d)
 

@@ -28,7 +28,7 @@ use Rattle.claims.proofs.Answers.{Limited, limited, not-refused}
 use Rattle.claims.proofs.Records.{record-checked}
 
 -- the check of the records finds the first that is refused
-stops-checked : {lines n count : ℕ} {h : History} {s : List ℕ} {x : Refusal} {m : ℕ} →
+pub stops-checked : {lines n count : ℕ} {h : History} {s : List ℕ} {x : Refusal} {m : ℕ} →
     Stops lines n h count s x m → checkFrom lines n h (recordsOf count s) ≡ Refused x m
 unfolding recordsOf
 stops-checked {lines} {n} {h = h} {s = s} (Stops.here k) = record-checked lines n h (take recordSize s) _ ∙ (rw (first-broken k))
@@ -36,7 +36,7 @@ stops-checked {lines} {n} {h = h} {s = s} (Stops.later k rest) =
     record-checked lines n h (take recordSize s) _ ∙ (rw (none-broken k) (stops-checked rest))
 
 -- where all are taken, it passes unless a transaction is open
-takes-checked : {lines count : ℕ} (n : ℕ) {h : History} {s : List ℕ} {all : History} →
+pub takes-checked : {lines count : ℕ} (n : ℕ) {h : History} {s : List ℕ} {all : History} →
     Takes lines h count s all → checkFrom lines n h (recordsOf count s) ≡ cond (eqb (depth all) 0) Passed (Refused TransactionOpen 0)
 unfolding recordsOf checkFrom
 takes-checked n Takes.done = refl

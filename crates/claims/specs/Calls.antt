@@ -1,5 +1,5 @@
--- Calls on a run one after another, bytes asked and closings between the events. A byte asked and a closing hand no run back, so the
--- caller goes on with the one that it has.
+-- Calls on a run one after another, bytes asked, closings and mean exposures between the events. These hand no run back, so the caller
+-- goes on with the one that it has.
 use mathlib.Core.List.{List, [], _∷_}
 use Prim.Native.Nat.{ℕ}
 use Rattle.event.specs.declared.Record.{Record}
@@ -10,12 +10,14 @@ pub data Call : Type 0 where
   gives : Record → Call
   asks : (byte : ℕ) → Call
   closes : Call
+  exposes : Call
 
 -- the run that the next call gets
 abbrev pub runNext : Run → Call → Run
 runNext run (Call.gives r) = giveOf run r .run
 runNext run (Call.asks byte) = run
 runNext run Call.closes = run
+runNext run Call.exposes = run
 
 unfoldable pub runCalled : Run → List Call → Run
 runCalled run [] = run
@@ -27,3 +29,4 @@ eventsAmong [] = []
 eventsAmong (Call.gives r ∷ calls) = r ∷ eventsAmong calls
 eventsAmong (Call.asks byte ∷ calls) = eventsAmong calls
 eventsAmong (Call.closes ∷ calls) = eventsAmong calls
+eventsAmong (Call.exposes ∷ calls) = eventsAmong calls

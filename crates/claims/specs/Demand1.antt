@@ -1,13 +1,14 @@
--- Demand 1, for fresh windows, events, bytes asked, closings, records and traces, for a writer's calls and for pages: whatever breaks a
--- stated limit is refused by the first number that applies, and by no number otherwise; run, findings area, writer and its area, and page
--- area are then what they were. The numbers 1 to 14 are document 01's; so is the record's number beside each. 15 is request 1's, 16 is
--- request 3's.
+-- Demand 1, for fresh windows, events, bytes asked, closings, records and traces, for a writer's calls, for pages and for mean exposure:
+-- whatever breaks a stated limit is refused by the first number that applies, and by no number otherwise; run, findings area, writer and
+-- its area, and page area are then what they were. The numbers 1 to 14 are document 01's; so is the record's number beside each. 15 is
+-- request 1's, 16 is request 3's, 17 is request 4's.
 use mathlib.Core.Path.{_≡_}
 use mathlib.Core.Logic.{_≢_, _⊎_}
 use mathlib.Core.List.{List, [], _∷_, _++_}
 use Prim.Native.Nat.{ℕ, suc, _+_, _≤_, _<_}
 use lib.ListN.{length, drop, getD}
 use Rattle.event.specs.declared.Event.{Event}
+use Rattle.event.specs.declared.Interval.the-variants.{Closed}
 use Rattle.event.specs.declared.Record.{Record}
 use Rattle.event.specs.declared.Finding.{Finding}
 use Rattle.event.specs.declared.Refusal.{Refusal}
@@ -17,6 +18,7 @@ use Rattle.window.specs.Window.{mostLines, windowBytes}
 use Rattle.codec.specs.Codec.{u16At}
 use Rattle.records.specs.Record.{parsed, readReply}
 use Rattle.history.specs.History.{History}
+use Rattle.history.specs.Interval.{intervalOf}
 use Rattle.history.specs.Transaction.{depth}
 use Rattle.history.specs.View.{View, ofHistory}
 use Rattle.history.specs.Refused.{Limit, limitsBy, limitNumbers, First, NoneBroken}
@@ -24,9 +26,12 @@ use Rattle.history.specs.Given.{windowOf, RefusedBy, Accepted}
 use Rattle.events.specs.Give.{giveOf}
 use Rattle.engine.specs.Call.{emptyRun, freshOf, askOf, closeOf}
 use Rattle.engine.specs.Reply.{windowReply, givenReply, askedReply, closingReply}
+use Rattle.exposure.specs.Exposure.{exposureOf, exposureReply}
 use Rattle.trailer.specs.Trailer.{trailerSize, trailerOf, fileLimits, openedOf, openedReply}
 use Rattle.trace.specs.Checked.{readLimits}
+use Rattle.trace.specs.Records.{linesIn}
 use Rattle.verdict.specs.Verdict.{traceLimits, verdictOf, verdictReply}
+use Rattle.trace_exposure.specs.TraceExposure.{traceExposureOf, traceExposureReply}
 use Rattle.file.specs.declared.Writer.{Writer}
 use Rattle.file.specs.declared.Started.the-variants.{Ready}
 use Rattle.file.specs.Limits.{startLimits, writeLimits, bytesLimits, closeLimits}
@@ -36,6 +41,7 @@ use Rattle.pages.specs.Pages.{findingsIn, pagesOf}
 use Rattle.pages.specs.Limits.{wholeLimits, damageLimits, roomLimits}
 use Rattle.pages.specs.Paged.{pagedOf, pagedReply, pageAreaAfter}
 use Rattle.claims.specs.After.{runFrom, takenFrom}
+use Rattle.claims.specs.MeanExposure.{NoneClosed}
 use Rattle.claims.specs.Paging.{NoneDamaged, DamagedFirst, NotPaged}
 use Rattle.claims.specs.Traces.{recordLimits, StopsAt, TakesAll, Rejected}
 
@@ -135,3 +141,24 @@ pub record Demand1 : Type 0 where
       NoneBroken (roomLimits (length area) (length (pagesOf findings))) →
       (pagedReply (pagedOf findings (length area)) ≡ Reply.values (length (pagesOf findings) ∷ [])) ×
       (pageAreaAfter findings area ≡ pagesOf findings ++ drop (length (pagesOf findings)) area)
+  -- the mean exposure of a run. 17: no byte of the window is closed
+  pub exposureRefused : (asked : ℕ) (given : List Record) → NoneClosed (windowOf asked) (takenFrom asked given) →
+      exposureReply (exposureOf (runFrom asked given)) ≡ Reply.refused 17 0
+  pub exposureTaken : (asked : ℕ) (given : List Record) (b opening closing number at : ℕ) → b < windowBytes (windowOf asked) →
+      intervalOf (takenFrom asked given) b ≡ Closed opening closing → exposureReply (exposureOf (runFrom asked given)) ≢ Reply.refused number at
+  -- of a trace: the first of 1, 2, 3, 4, 5 that applies, at 0
+  pub exposureFileNumbers : (trace : List ℕ) → limitNumbers (fileLimits trace) ≡ 1 ∷ 2 ∷ 3 ∷ 4 ∷ 5 ∷ []
+  pub exposureFileRefused : (trace : List ℕ) {x : Refusal} → First (fileLimits trace) x →
+      traceExposureReply (traceExposureOf trace) ≡ Reply.refused (numberOf x) 0
+  -- else the first record to which one of 6 to 12 applies, by the first that does, at the record's number
+  pub exposureRecordRefused : (trace : List ℕ) {x : Refusal} {n : ℕ} → NoneBroken (fileLimits trace) → StopsAt trace x n →
+      traceExposureReply (traceExposureOf trace) ≡ Reply.refused (numberOf x) n
+  -- else 13, at 0
+  pub exposureOpen : (trace : List ℕ) {h : History} → NoneBroken (fileLimits trace) → TakesAll trace h → depth h ≢ 0 →
+      traceExposureReply (traceExposureOf trace) ≡ Reply.refused 13 0
+  -- else 17, at 0
+  pub exposureNone : (trace : List ℕ) {h : History} → NoneBroken (fileLimits trace) → TakesAll trace h → depth h ≡ 0 → NoneClosed (linesIn trace) h →
+      traceExposureReply (traceExposureOf trace) ≡ Reply.refused 17 0
+  -- else by no number
+  pub exposureSome : (trace : List ℕ) {h : History} (b opening closing number at : ℕ) → NoneBroken (fileLimits trace) → TakesAll trace h → depth h ≡ 0 →
+      b < windowBytes (linesIn trace) → intervalOf h b ≡ Closed opening closing → traceExposureReply (traceExposureOf trace) ≢ Reply.refused number at

@@ -66,7 +66,7 @@ pub record Demand3 : Type 0 where
   -- the totals at closing: the accepted events, the fences among them, and the findings other than none
   pub totals : (asked : ℕ) (given : List Record) → let h = takenFrom asked given in depth h ≡ 0 →
       closingReply (closeOf (runFrom asked given)) ≡ Reply.values (length h ∷ epochAt h (length h) ∷ reported (answersFrom asked given) ∷ [])
-  -- bytes asked and closings in between change nothing: the run after any calls is the run after the events among them
+  -- bytes asked, closings and mean exposures in between change nothing: the run after any calls is the run after the events among them
   pub between : (asked : ℕ) (calls : List Call) → runCalled (freshOf asked .run) calls ≡ runFrom asked (eventsAmong calls)
   -- the findings area of an accepted trace holds, for each record in order, the finding that its event gets when the trace's events
   -- are given singly from the fresh window that the trace is judged from

@@ -24,5 +24,8 @@ module _ (run : Run) (s : List ℕ) {kind number : ℕ} (k : kind ≡ getD s 0 0
   pub fences-call : kind ≡ 19 → next ≡ afterFences run number → next ≡ afterCall run s
   fences-call e p = rw (← k, e, ← n) p
 
-  pub event-call : kind ≢ 16 → kind ≢ 17 → kind ≢ 18 → kind ≢ 19 → next ≡ afterRecord run (parsed s) → next ≡ afterCall run s
-  event-call a b c d p = p ∙ simp (← k, ne-eqb kind 16 a, ne-eqb kind 17 b, ne-eqb kind 18 c, ne-eqb kind 19 d)
+  pub exposing-call : kind ≡ 20 → next ≡ run → next ≡ afterCall run s
+  exposing-call e p = rw (← k, e) p
+
+  pub event-call : kind ≢ 16 → kind ≢ 17 → kind ≢ 18 → kind ≢ 19 → kind ≢ 20 → next ≡ afterRecord run (parsed s) → next ≡ afterCall run s
+  event-call a b c d e p = p ∙ simp (← k, ne-eqb kind 16 a, ne-eqb kind 17 b, ne-eqb kind 18 c, ne-eqb kind 19 d, ne-eqb kind 20 e)

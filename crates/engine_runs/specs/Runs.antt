@@ -23,7 +23,8 @@ unfoldable pub afterFences : Run → ℕ → Run
 afterFences run zero = run
 afterFences run (suc n) = giveOf (afterFences run n) (record { event = Fence; site = 0 }) .run
 
--- after a call, by its kind: 16 is a fresh window, 17 and 18 ask and close, 19 is fences, any other an event given
+-- after a call, by its kind: 16 is a fresh window, 17, 18 and 20 ask, close and ask for the mean exposure, 19 is fences, any other an
+-- event given
 abbrev pub afterCall : Run → List ℕ → Run
 afterCall run s =
     let kind = getD s 0 0 in
@@ -32,4 +33,5 @@ afterCall run s =
     (cond (eqb kind 17) run
     (cond (eqb kind 18) run
     (cond (eqb kind 19) (afterFences run number)
-    (afterRecord run (parsed s)))))
+    (cond (eqb kind 20) run
+    (afterRecord run (parsed s))))))

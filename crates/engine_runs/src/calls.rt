@@ -49,6 +49,12 @@ fn close(run: Run) {
     call_lines::closed(c);
 }
 
+// The run asked for its mean exposure.
+fn expose(run: Run) {
+    let e = exposure::exposure(run);
+    call_lines::exposed(e);
+}
+
 // So many fences given, with no line printed, and the run after them.
 fn give_fences(run: Run, count: u16) -> Run
     ensures { λ r. ⌜ r ≡ afterFences run count ⌝ }
@@ -67,7 +73,8 @@ fn give_fences(run: Run, count: u16) -> Run
     next
 }
 
-// The call in 12 bytes, and the run after it: kinds 1 to 8 are events, 16 a fresh window, 17 a byte asked, 18 a closing, 19 fences.
+// The call in 12 bytes, and the run after it: kinds 1 to 8 are events, 16 a fresh window, 17 a byte asked, 18 a closing, 19 fences, 20 the mean
+// exposure.
 pub fn call(run: Run, bytes: &[u8]) -> Run
     ensures { λ r. ⌜ r ≡ afterCall run (now (bytes .entry)) ⌝ }
 {
@@ -84,6 +91,10 @@ pub fn call(run: Run, bytes: &[u8]) -> Run
             run
         }
         19 => give_fences(run, number),
+        20 => {
+            expose(run);
+            run
+        }
         _ => give(run, bytes),
     }
 }

@@ -75,7 +75,7 @@ pub fn fields(f: Finding) -> Fields
     }
 }
 
-// A refusal's number, 1 to 16.
+// A refusal's number, 1 to 17.
 pub fn number(r: Refusal) -> u8
     ensures { λ n. ⌜ n ≡ numberOf r ⌝ }
 {
@@ -96,5 +96,6 @@ pub fn number(r: Refusal) -> u8
         Refusal::AreaTooShort => 14,
         Refusal::FileAreaTooShort => 15,
         Refusal::PageAreaTooShort => 16,
+        Refusal::NoByteClosed => 17,
     }
 }

@@ -56,6 +56,16 @@ module _ (p : ℕ → Bool) where
   count-less m zero h t = absurd (omega arith)
   count-less m (suc s) h t = rw t (omega (arith, count-mono m s (omega arith)))
 
+  -- no more pass than there are
+  pub count-few : (m : ℕ) → count p m ≤ m
+  unfolding count
+  count-few zero = omega arith
+  count-few (suc m) = go (p (suc m)) (count-few m)
+    where
+      go : (b : Bool) → count p m ≤ m → cond b (suc (count p m)) (count p m) ≤ suc m
+      go true few = omega arith
+      go false few = omega arith
+
   -- the last is at most the bound
   pub last-le : (m : ℕ) → last p m ≤ m
   unfolding last

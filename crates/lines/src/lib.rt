@@ -5,7 +5,7 @@ ghost use Rattle.text.specs.Text.{decimal, out, put};
 ghost use Rattle.lines.specs.Lines.{headLine, footLine, refusalLine};
 
 // A number between two words, and another between the second and a third.
-fn phrase(
+pub fn phrase(
     text: &mut [u8],
     at: usize,
     first: &[u8],

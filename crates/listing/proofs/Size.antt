@@ -16,26 +16,14 @@ use Rattle.trace.specs.declared.TraceCheck.the-variants.{Passed, Refused}
 use Rattle.trace.specs.Records.{linesIn, eventsIn}
 use Rattle.verdict.specs.Verdict.{traceCheck, historyOf, answersOf, verdictFor, verdictOf, verdictReply}
 use Rattle.text.specs.Text.{Out, out, put}
-use Rattle.lines.specs.Lines.{headLine, footLine, refusalLine}
+use Rattle.lines.specs.Lines.{headLine, footLine}
 use Rattle.finding_lines.specs.Lines.{isPrinted, field, values, columns, findingLine}
 use Rattle.listing.specs.Report.{findingLines, reportFor, reportOf}
 use Rattle.text.proofs.Decimal.{decimal-length}
 use Rattle.text.proofs.Filled.{whole}
+use Rattle.lines.proofs.Size.{head-size, foot-size, refusal-size}
 use Rattle.finding_lines.proofs.Names.{name-size}
 use Rattle.listing.proofs.Area.{events-few}
-
--- head, foot and refusal: words and two numbers or one
-head-size : (events lines : ℕ) → length (headLine events lines) ≤ 41
-unfolding headLine
-head-size events lines = simp length-append (omega (arith, decimal-length events, decimal-length lines))
-
-foot-size : (findings : ℕ) → length (footLine findings) ≤ 15
-unfolding footLine
-foot-size findings = simp length-append (omega (arith, decimal-length findings))
-
-refusal-size : (number at : ℕ) → length (refusalLine number at) ≤ 33
-unfolding refusalLine
-refusal-size number at = simp length-append (omega (arith, decimal-length number, decimal-length at))
 
 -- a finding line: six numbers, a name, six blanks and the line feed
 columns-size : (event site : ℕ) (f : Fields) → length (columns event site f) ≤ 80

@@ -136,6 +136,30 @@ passes lines m n h run (Read r ∷ rest) at d k check inside =
         (more (next lines h run r f rest n at d) (found lines h run r f rest n at d) (follows-next lines m h run k view r t f)
         (placed-length d at (findingBytes f (r .site))))
 
+-- and with any buffer it ends in the run after their events, by induction over them
+passes-run : (lines : ℕ) → lines ≤ mostLines → (n : ℕ) (h : History) (run : Run) (records : List Parsed) (at : ℕ) (d : List ℕ) → Follows lines h run →
+    checkFrom lines n h records ≡ Passed → recordsJudged records n at (stage run d) .stage .run ≡ runAfter run (eventsOf records)
+unfolding recordsJudged runAfter eventsOf checkFrom
+passes-run lines m n h run [] at d k check = refl
+passes-run lines m n h run (Unread x ∷ rest) at d k check = let z : _≡_ {A = ℕ} 0 1 = cc in absurd (omega arith)
+passes-run lines m n h run (Read r ∷ rest) at d k check =
+    go (answered lines h run r view) (λ next e j. passes-run lines m (suc n) (r ∷ h) next rest (at + findingSize) e j (taken .1))
+  where
+    view : ofRun run ≡ ofHistory lines h
+    view = same-view m (k .tracks)
+
+    taken : (refusalBy (ofHistory lines h) (r .event) ≡ Fits) × (checkFrom lines (suc n) (r ∷ h) rest ≡ Passed)
+    taken = unless-passed (refusalBy (ofHistory lines h) (r .event)) n (checkFrom lines (suc n) (r ∷ h) rest) check
+
+    go : Answered lines h run r →
+        ((next : Run) (e : List ℕ) → Follows lines (r ∷ h) next →
+        recordsJudged rest (suc n) (at + findingSize) (stage next e) .stage .run ≡ runAfter next (eventsOf rest)) →
+        recordsJudged (Read r ∷ rest) n at (stage run d) .stage .run ≡ runAfter run (eventsOf (Read r ∷ rest))
+    go (Answered.refused {x = x} a g) more =
+        let c = refused-check lines h r a in let z : _≡_ {A = ℕ} 0 1 = cc in absurd (omega arith)
+    go (Answered.found {f = f} t a g) more =
+        rw (recordAnswer, g, runAfter) (more (nextOf run (r .event) f) (placed at (findingBytes f (r .site)) d) (follows-next lines m h run k view r t f))
+
 -- what the pass leaves where no record is refused
 pub record Judged (lines : ℕ) (records : List Parsed) (end : Stage) : Type 0 where
   pub events : end .run .counts .events ≡ length (accepted lines [] (eventsOf records))
@@ -162,3 +186,8 @@ module _ (lines : ℕ) (m : lines ≤ mostLines) (records : List Parsed) (buffer
         findings = findings-counted lines m (eventsOf records);
         buffer = take-at _ _ (findingSize * length records) (findings-size lines 1 [] records check);
       }
+
+  -- the run
+  pub judged-run : checkAll lines records ≡ Passed →
+      recordsJudged records 1 0 (stage (emptyRun lines) buffer) .stage .run ≡ runAfter (emptyRun lines) (eventsOf records)
+  judged-run check = passes-run lines m 1 [] (emptyRun lines) records 0 buffer (fresh-follows lines) check

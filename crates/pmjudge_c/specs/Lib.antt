@@ -1,4 +1,4 @@
--- The judge, the writer and the pages for programs in C or Rust.
-pub mod Answer  -- the judge's answer as numbers
+-- The judge, the writer, the pages and the mean exposure for programs in C or Rust.
+pub mod Answer  -- the judge's answer, and a mean exposure, as numbers
 pub mod Writer  -- a writer and its answers as numbers
 pub mod Pages  -- the answer of laying out findings as numbers

@@ -1,4 +1,5 @@
 // The judge for programs in C or Rust. The names of calls start with the library's, since a name is the whole program's, as in C.
+pub mod exposing; // the mean exposure of traces
 pub mod printing; // findings laid out on pages
 pub mod writing; // the writer of traces
 

@@ -1,10 +1,11 @@
 -- The checks of a trace in their order: the trailer, the area, the records.
-use mathlib.Core.Path.{_≡_, refl, ap}
+use mathlib.Core.Path.{_≡_, refl, ap, _∙_}
 use mathlib.Core.Bool.{Bool, true, false, cond}
+use mathlib.Core.Logic.{_⊎_, inl, inr}
 use mathlib.Core.List.{List, [], _∷_, _++_}
 use Prim.Native.Nat.{ℕ, _*_, _≤_, _<_}
 use native.Mathlib.Omega.{arith}
-use lib.Dec.{eqb}
+use lib.Dec.{eqb, ltb}
 use lib.ListN.{length}
 use borrow.Author.Tests.{lt-ltb, le-ltb, ltb-false, eqb-true, not-false}
 use Rattle.event.specs.declared.Refusal.{Refusal}
@@ -53,7 +54,7 @@ broken-later (l ∷ xs) ys e = go (l .broken) e (λ k. broken-later xs ys k)
 
 module _ (s area : List ℕ) where
   -- a trailer that is refused is so by the first limit that is broken
-  not-opened : {x : Refusal} → openedOf s ≡ NotOpened x → firstBroken (fileLimits s) ≡ Breaks x
+  pub not-opened : {x : Refusal} → openedOf s ≡ NotOpened x → firstBroken (fileLimits s) ≡ Breaks x
   unfolding openedOf
   not-opened {x} e = go (firstBroken (fileLimits s)) e
     where
@@ -97,3 +98,20 @@ module _ (s area : List ℕ) where
             let whole = ltb-false mostBytes (length s) b in
             let ends = eqb-true (endOf (trailerOf s)) (length s) (not-false (eqb (endOf (trailerOf s)) (length s)) e) in
             omega (arith, whole, ends, ap (λ (t : Trailer). t .count) (opened s known .trailer))
+
+-- the area aside, a trace is refused by its file and its records alone
+pub area-aside : (s area : List ℕ) →
+    (traceCheck s area ≡ unlessBroken (firstBroken (fileLimits s)) 0 (checkAll (linesIn s) (recordsIn s))) ⊎ (traceCheck s area ≡ RefusedAt AreaTooShort 0)
+area-aside s area = go (firstBroken (fileLimits s)) refl (ltb (length area) (areaSize s)) refl
+  where
+    rest : TraceCheck
+    rest = checkAll (linesIn s) (recordsIn s)
+
+    decides : (c : Check) → firstBroken (traceLimits s area) ≡ c → traceCheck s area ≡ unlessBroken c 0 rest
+    decides c e = ap (λ (c : Check). unlessBroken c 0 rest) e
+
+    go : (c : Check) → firstBroken (fileLimits s) ≡ c → (short : Bool) → ltb (length area) (areaSize s) ≡ short →
+        (traceCheck s area ≡ unlessBroken c 0 rest) ⊎ (traceCheck s area ≡ RefusedAt AreaTooShort 0)
+    go (Breaks x) e short a = inl (decides (Breaks x) (broken-first (fileLimits s) (areaLimits s area) e))
+    go Fits e true a = inr (decides (Breaks AreaTooShort) (broken-later (fileLimits s) (areaLimits s area) e ∙ (rw a)))
+    go Fits e false a = inl (decides Fits (broken-later (fileLimits s) (areaLimits s area) e ∙ (rw a)))

@@ -2,6 +2,7 @@
 
 use super::writing::{Change, Writing};
 use super::{Call, FENCE};
+use crate::exposure::Exposure;
 use crate::finding::{Finding, Kind};
 use crate::interval::Interval;
 use crate::outcome::{Refusal, Totals};
@@ -15,6 +16,7 @@ pub enum Answer {
     Finding(Finding),
     Interval(Interval),
     Totals(Totals),
+    Exposure(Exposure),
     Refused(u8),
     /// From the writer: taken, with the file's length if it is a closing, or refused by a number;
     /// and what the call changed in the area.
@@ -47,6 +49,7 @@ fn answer<W: Way>(run: &mut W, call: Call) -> Option<Answer> {
         Call::Give(record) => singly::give(run, &record).map(Answer::Finding),
         Call::Ask(byte) => singly::ask(run, usize::from(byte)).map(Answer::Interval),
         Call::Close => singly::close(run).map(Answer::Totals),
+        Call::Exposure => singly::exposure(run).map(Answer::Exposure),
         Call::Fences(count) => {
             give_fences(run, count);
             return None;
@@ -79,6 +82,7 @@ impl fmt::Display for Answer {
                 let (events, fences, found) = (totals.events, totals.fences, totals.found);
                 write!(f, "events {events} fences {fences} findings {found}")
             }
+            Answer::Exposure(exposure) => write!(f, "{exposure}"),
             Answer::Refused(number) => write!(f, "refused {number}"),
             Answer::Writer(result, change) => {
                 match result {

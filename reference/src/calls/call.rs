@@ -18,6 +18,8 @@ pub enum Call {
     Close,
     /// So many fences are given, and nothing is printed.
     Fences(u16),
+    /// The mean exposure of the run is asked for.
+    Exposure,
     /// A fresh area of so many bytes takes the area's place.
     Area(u32),
     /// The preamble of the starts that follow: so many bytes, from a first one on by 7 upwards.
@@ -39,6 +41,7 @@ impl Call {
     const ASK: u8 = 17;
     const CLOSE: u8 = 18;
     const FENCES: u8 = 19;
+    const EXPOSURE: u8 = 20;
     const AREA: u8 = 32;
     const PREAMBLE: u8 = 33;
     const PREAMBLE_OF_AREA: u8 = 34;
@@ -60,6 +63,7 @@ impl Call {
             Call::Ask(byte) => bytes_with(Call::ASK, byte),
             Call::Close => bytes_with(Call::CLOSE, 0),
             Call::Fences(count) => bytes_with(Call::FENCES, count),
+            Call::Exposure => bytes_with(Call::EXPOSURE, 0),
             Call::Area(length) => bytes_of_length(Call::AREA, length, 0),
             Call::Preamble(length, from) => bytes_of_length(Call::PREAMBLE, length, from),
             Call::PreambleOfArea(length) => bytes_of_length(Call::PREAMBLE_OF_AREA, length, 0),
@@ -87,6 +91,7 @@ impl Call {
             Call::ASK => Call::Ask(number),
             Call::CLOSE => Call::Close,
             Call::FENCES => Call::Fences(number),
+            Call::EXPOSURE => Call::Exposure,
             Call::AREA..=Call::PREAMBLE_OF_AREA if length > Call::MOST_BYTES => return None,
             Call::AREA => Call::Area(length),
             Call::PREAMBLE => Call::Preamble(length, bytes[6]),
@@ -114,6 +119,7 @@ impl Call {
             ["ask", byte] => Call::Ask(script::number(byte)?),
             ["close"] => Call::Close,
             ["fences", count] => Call::Fences(script::number(count)?),
+            ["exposure"] => Call::Exposure,
             ["area", length] => Call::Area(wide(length)?),
             ["preamble", "of", "area", length] => Call::PreambleOfArea(wide(length)?),
             ["preamble", length, "from", byte] => Call::Preamble(wide(length)?, narrow(byte)?),
@@ -192,6 +198,7 @@ impl fmt::Display for Call {
             Call::Ask(byte) => write!(f, "ask {byte}"),
             Call::Close => write!(f, "close"),
             Call::Fences(count) => write!(f, "fences {count}"),
+            Call::Exposure => write!(f, "exposure"),
             Call::Area(length) => write!(f, "area {length}"),
             Call::Preamble(length, from) => write!(f, "preamble {length} from {from}"),
             Call::PreambleOfArea(length) => write!(f, "preamble of area {length}"),

@@ -1,6 +1,7 @@
 //! How often each sort of answer comes.
 
 use super::{Answer, Call, Calls, Entry};
+use crate::exposure::Exposure;
 use crate::interval::Interval;
 use std::collections::{BTreeMap, BTreeSet};
 use std::fmt;
@@ -17,6 +18,9 @@ pub enum Sort {
     OpenAgain,
     Closed,
     Totals,
+    /// A mean exposure, without and with a remainder.
+    Whole,
+    WithRemainder,
     /// Of a closed file.
     Length,
     Refused(u8),
@@ -34,6 +38,8 @@ impl fmt::Display for Sort {
             Sort::OpenAgain => write!(f, "open again"),
             Sort::Closed => write!(f, "closed"),
             Sort::Totals => write!(f, "totals"),
+            Sort::Whole => write!(f, "remainder 0"),
+            Sort::WithRemainder => write!(f, "remainder from 1"),
             Sort::Length => write!(f, "length"),
             Sort::Refused(number) => write!(f, "refused {number}"),
             Sort::Silent => write!(f, "silent"),
@@ -97,6 +103,8 @@ fn sort(answer: Option<&Answer>) -> Sort {
         Some(Answer::Interval(Interval::Open(_))) => Sort::Open,
         Some(Answer::Interval(Interval::Closed(..))) => Sort::Closed,
         Some(Answer::Totals(_)) => Sort::Totals,
+        Some(Answer::Exposure(Exposure { remainder: 0, .. })) => Sort::Whole,
+        Some(Answer::Exposure(_)) => Sort::WithRemainder,
         Some(Answer::Writer(Ok(None), _)) => Sort::Taken,
         Some(Answer::Writer(Ok(Some(_)), _)) => Sort::Length,
         Some(Answer::Refused(number) | Answer::Writer(Err(number), _)) => Sort::Refused(*number),
@@ -110,6 +118,7 @@ fn name(call: Call) -> &'static str {
         Call::Ask(_) => "ask",
         Call::Close => "close",
         Call::Fences(_) => "fences",
+        Call::Exposure => "exposure",
         Call::Area(_) => "area",
         Call::Preamble(..) => "preamble",
         Call::PreambleOfArea(_) => "preamble of area",

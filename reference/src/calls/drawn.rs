@@ -1,5 +1,5 @@
-//! Calls drawn at random from a fixed seed: events, refused ones among them, bytes asked between
-//! them, and closings.
+//! Calls drawn at random from a fixed seed: events, refused ones among them, bytes and exposures
+//! asked between them, and closings.
 
 use super::{Call, Case};
 use crate::event::{Event, Range, Record, LINE, MAX_LINES};
@@ -9,6 +9,9 @@ const SEED: u64 = 201;
 const RUNS: usize = 150;
 const TORN_SEED: u64 = 202;
 const TORN_RUNS: usize = 30;
+const EXPOSURE_SEED: u64 = 203;
+const EXPOSURE_RUNS: usize = 20;
+const EXPOSED_EVENTS: usize = 20;
 /// Windows beside those of 1, 2, 63 and 64 lines.
 const OTHER: [u16; 8] = [3, 4, 5, 8, 16, 31, 32, 62];
 /// Windows that are refused; the low bytes of some would be taken.
@@ -63,6 +66,21 @@ pub(super) fn torn_cases() -> Vec<Case> {
         }
     };
     (0..TORN_RUNS).map(run).collect()
+}
+
+/// Runs of mostly stores, write-backs and fences, with the mean exposure asked after every event.
+pub(super) fn exposure_cases() -> Vec<Case> {
+    let mut random = Random::new(EXPOSURE_SEED);
+    let run = |number| {
+        let lines = window(&mut random, number);
+        let mut drawer = Drawer::new(&mut random, lines);
+        drawer.draw_exposed();
+        Case {
+            group: "exposure random",
+            calls: drawer.calls,
+        }
+    };
+    (0..EXPOSURE_RUNS).map(run).collect()
 }
 
 /// Events for a window of so many lines, with some that may be refused among them.
@@ -130,6 +148,60 @@ impl Drawer<'_> {
             self.give(event);
         }
         self.calls.push(Call::Close);
+    }
+
+    /// Events, few of them refused, with the mean exposure asked behind each. Some bytes are closed
+    /// first in most runs.
+    fn draw_exposed(&mut self) {
+        let shape = Shape {
+            mix: self.random.pick(&[CLOSING, CLOSING, CLOSING, Mix::EVEN]),
+            events: EXPOSED_EVENTS,
+            ..self.shape()
+        };
+        if self.random.chance(3, 4) {
+            let (any, whole) = self.long_ranges(&shape);
+            for event in [Event::Store(any), Event::WriteBack(whole), Event::Fence] {
+                self.give_exposed(event);
+            }
+        }
+        for record in random::events(self.random, &shape) {
+            if self.random.chance(1, 12) {
+                let refused = self.event_at_the_end(&shape);
+                self.give_exposed(refused);
+            }
+            let event = self.of_any_length(&shape, record.event);
+            self.give_exposed(event);
+        }
+        self.calls.push(Call::Close);
+    }
+
+    /// Gives the event and asks the mean exposure; many fences follow some stores.
+    fn give_exposed(&mut self, event: Event) {
+        let site = self.random.bits() as u16;
+        self.calls.push(Call::Give(Record { event, site }));
+        self.calls.push(Call::Exposure);
+        if matches!(event, Event::Store(_)) && self.random.chance(1, 2) {
+            let count = self.random.pick(&[1, 1, 2, 3, 9, 30]);
+            self.calls.push(Call::Fences(count));
+        }
+    }
+
+    /// A range of any length, and the whole window.
+    fn long_ranges(&mut self, shape: &Shape) -> (Range, Range) {
+        let longest = self.lines * LINE as u16;
+        let any = random::range(self.random, &Shape { longest, ..*shape });
+        (any, Range::new(0, longest))
+    }
+
+    /// The event; some stores and write-backs get a range of any length, or the whole window.
+    fn of_any_length(&mut self, shape: &Shape, event: Event) -> Event {
+        let (any, whole) = self.long_ranges(shape);
+        match (event, self.random.below(6)) {
+            (Event::Store(_), 0 | 1) => Event::Store(any),
+            (Event::WriteBack(_), 0) => Event::WriteBack(any),
+            (Event::WriteBack(_), 1..=3) => Event::WriteBack(whole),
+            _ => event,
+        }
     }
 
     /// Events, with some that may be refused among them.

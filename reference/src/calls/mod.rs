@@ -1,5 +1,5 @@
-//! Calls on single events (a fresh window, an event given, a byte asked, a closing) and calls of
-//! the writer as a file, and the text of their answers.
+//! Calls on single events (a fresh window, an event given, a byte asked, a closing, the mean
+//! exposure) and calls of the writer as a file, and the text of their answers.
 //!
 //! Making them needs no clock: both are the same each time, byte for byte.
 
@@ -8,6 +8,7 @@ mod call;
 mod closed;
 mod count;
 mod drawn;
+mod exposures;
 mod writer_drawn;
 mod writer_written;
 mod writing;
@@ -73,6 +74,8 @@ impl Calls {
         let mut cases = written::cases();
         cases.extend(drawn::cases());
         cases.extend(drawn::torn_cases());
+        cases.extend(exposures::cases());
+        cases.extend(drawn::exposure_cases());
         cases.extend(writer_written::cases());
         cases.extend(writer_drawn::cases());
         let entries = cases.into_iter().map(entry).collect::<Result<_, _>>()?;

@@ -1,0 +1,2 @@
+-- The mean exposure of a trace.
+pub mod TraceExposure  -- the answer, read off the bytes
