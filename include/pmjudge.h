@@ -51,7 +51,7 @@ enum pmjudge_refusal {
                                          no findings */
     PMJUDGE_UNKNOWN_KIND = 6,         /* a kind of event that is not 1 to 8, of finding over 8 */
     PMJUDGE_FIELD_SET = 7,            /* a zero byte, or a field that the kind lacks, is set */
-    PMJUDGE_EMPTY_RANGE = 8,          /* a range of length 0 */
+    /* 8 was a range of length 0, up to version 2 */
     PMJUDGE_PAST_WINDOW = 9,          /* a range past the window */
     PMJUDGE_EVENTS_EXHAUSTED = 10,    /* more than 65,535 events; no trace is that long */
     PMJUDGE_NO_TRANSACTION = 11,      /* a log or an end outside a transaction */
@@ -63,7 +63,10 @@ enum pmjudge_refusal {
     PMJUDGE_NO_BYTE_CLOSED = 17       /* a mean exposure where no byte is closed */
 };
 
-/* The kinds of event, with the ranges that each has. */
+/*
+ * The kinds of event, with the ranges that each has. A range of length 0 has no byte and touches no
+ * line; its address is at most the window's size in bytes, 64 for each line.
+ */
 enum pmjudge_event {
     PMJUDGE_STORE = 1,      /* A */
     PMJUDGE_WRITE_BACK = 2, /* A: clwb of every line that it touches */
@@ -94,7 +97,7 @@ enum pmjudge_finding {
  * answer[0] is the refusal, PMJUDGE_ACCEPTED if there is none, and answer[1] the number of the
  * record refused: from 1, and 0 if no record is meant. answer[2] to answer[4] are the events, the
  * fences and the findings other than PMJUDGE_NONE; all 0 for a refused trace. A trace is refused by
- * the first number that applies: 1 to 5, 14; then record by record 6 to 12; then 13.
+ * the first number that applies: 1 to 5, 14; then record by record 6, 7, 9 to 12; then 13.
  *
  * An accepted trace puts its findings at the area's start, PMJUDGE_FINDING_SIZE bytes for each
  * record in order: the kind, a zero byte, then lost, kept, moment, store and site, 16 bits each with
@@ -135,7 +138,7 @@ void pmjudge_writer_start(uint8_t *area, size_t area_length, const uint8_t *prea
  * in bytes from the window's start, and 0, as their lengths, where the kind lacks the range. The
  * site is any number that tells the caller where the event comes from, for instance a source line.
  * Refused by the first that applies: 2, a trace that with this event and a trailer has over 65,536
- * bytes; 6 to 12, where the judge would refuse the record at this place; 15.
+ * bytes; 6, 7, 9 to 12, where the judge would refuse the record at this place; 15.
  */
 void pmjudge_writer_event(uint8_t *area, size_t area_length, uint32_t writer[4], uint8_t kind,
                           uint16_t a, uint16_t a_length, uint16_t b, uint16_t b_length,
@@ -183,8 +186,8 @@ void pmjudge_pages(const uint8_t *findings, size_t findings_length, uint8_t *are
  * record refused: from 1, and 0 if no record is meant. answer[2] to answer[4] are quotient, remainder
  * and divisor; all 0 for a refused trace. The divisor is the number of bytes closed, and quotient *
  * divisor + remainder the sum, with the remainder below the divisor; the mean is 1 at least. A trace
- * is refused by the first number that applies: 1 to 5; then record by record 6 to 12; then 13; then
- * 17.
+ * is refused by the first number that applies: 1 to 5; then record by record 6, 7, 9 to 12; then 13;
+ * then 17.
  *
  * A call takes about 34 KB of the caller's stack: 33,024 bytes for tables, and little more.
  */

@@ -144,10 +144,16 @@ static void events(void)
     event_in(AREA, PMJUDGE_STORE, 0, 0, 1, 0);
     EXPECT(refused(PMJUDGE_FIELD_SET));
     event_in(AREA, PMJUDGE_ORDERED, 121, 8, 0, 0);
-    EXPECT(refused(PMJUDGE_EMPTY_RANGE));
+    EXPECT(refused(PMJUDGE_PAST_WINDOW));
+    event_in(AREA, PMJUDGE_ORDERED, 120, 8, 129, 0);
+    EXPECT(refused(PMJUDGE_PAST_WINDOW));
+    event(PMJUDGE_STORE, 129, 0);
+    EXPECT(refused(PMJUDGE_PAST_WINDOW));
     event(PMJUDGE_LOG, 121, 8);
     EXPECT(refused(PMJUDGE_PAST_WINDOW));
     event(PMJUDGE_LOG, 120, 8);
+    EXPECT(refused(PMJUDGE_NO_TRANSACTION));
+    event(PMJUDGE_LOG, 128, 0);
     EXPECT(refused(PMJUDGE_NO_TRANSACTION));
     event(PMJUDGE_END, 0, 0);
     EXPECT(refused(PMJUDGE_NO_TRANSACTION));
@@ -222,7 +228,6 @@ static void changed_bytes(void)
         {20, 2, PMJUDGE_LENGTH_DIFFERS, 0},
         {0, 9, PMJUDGE_UNKNOWN_KIND, 1},
         {1, 1, PMJUDGE_FIELD_SET, 1},
-        {0, PMJUDGE_STORE, PMJUDGE_EMPTY_RANGE, 1},
         {0, PMJUDGE_END, PMJUDGE_NO_TRANSACTION, 1},
         {0, PMJUDGE_BEGIN, PMJUDGE_TRANSACTION_OPEN, 0},
     };
@@ -260,6 +265,16 @@ static void kinds_of_finding(void)
         {PMJUDGE_BEGIN, 0, 0, 0, 0, PMJUDGE_NONE},
         {PMJUDGE_STORE, 0, 8, 0, 0, PMJUDGE_UNLOGGED},
         {PMJUDGE_END, 0, 0, 0, 0, PMJUDGE_LOST},
+        /* ranges of no bytes; the window has 192 bytes */
+        {PMJUDGE_WRITE_BACK, 128, 0, 0, 0, PMJUDGE_NONE},
+        {PMJUDGE_BEGIN, 0, 0, 0, 0, PMJUDGE_NONE},
+        {PMJUDGE_STORE, 192, 0, 0, 0, PMJUDGE_NONE},
+        {PMJUDGE_LOG, 0, 0, 0, 0, PMJUDGE_NONE},
+        {PMJUDGE_END, 0, 0, 0, 0, PMJUDGE_EMPTY},
+        {PMJUDGE_PERSISTED, 0, 0, 0, 0, PMJUDGE_HOLDS},
+        {PMJUDGE_ORDERED, 0, 8, 64, 8, PMJUDGE_OUT_OF_ORDER},
+        {PMJUDGE_ORDERED, 0, 0, 64, 8, PMJUDGE_HOLDS},
+        {PMJUDGE_ORDERED, 0, 8, 64, 0, PMJUDGE_HOLDS},
     };
     size_t count = sizeof given / sizeof given[0], at;
     start(AREA, 0, 3);

@@ -1,6 +1,7 @@
 //! `differential`: judges compared with the unrelated checker on random traces.
 
 use crate::judge::Answer;
+use crate::no_bytes;
 use crate::progress::Progress;
 use reference::event::LINE;
 use reference::finding::{Finding, Kind};
@@ -134,7 +135,8 @@ pub fn given(seed: u64, number: u64) -> Given {
     Given::new(&mut random, trace, area_len)
 }
 
-/// A trace, valid or damaged: mostly short, some long or near the longest, some of any bytes.
+/// A trace, valid or damaged: mostly short, some long or near the longest, some of any bytes. One in eight gets ranges of
+/// no bytes.
 pub fn drawn(random: &mut Random) -> Vec<u8> {
     let shape = shape(random);
     let (mut trace, most_damages) = match random.below(500) {
@@ -151,6 +153,9 @@ pub fn drawn(random: &mut Random) -> Vec<u8> {
     };
     for _ in 0..random.below(most_damages + 1) {
         damage(random, &mut trace);
+    }
+    if random.chance(1, 8) {
+        no_bytes::put_some(random, &mut trace);
     }
     trace
 }
@@ -271,10 +276,13 @@ fn set_field(random: &mut Random, trace: &mut [u8]) {
 }
 
 /// Sets a range of a record to one that ends where the window ends, one byte further, or past
-/// 65,535.
+/// 65,535. One in eight has no byte.
 fn set_range(random: &mut Random, trace: &mut [u8]) {
     if let Some((start, window)) = some_record(random, trace) {
-        let length = 1 + random.below(window);
+        let length = match random.below(8) {
+            0 => 0,
+            _ => 1 + random.below(window),
+        };
         let address = match random.below(3) {
             0 => window - length,
             1 => window - length + 1,
@@ -345,6 +353,7 @@ struct Counts {
     findings: [u64; 9],
     /// Traces with a pair out of order that one store set on one line, and those pairs.
     torn: [u64; 2],
+    no_bytes: no_bytes::Counts,
     areas: [u64; 5],
 }
 
@@ -361,6 +370,7 @@ impl Counts {
             torn += u64::from(is_torn(finding));
         }
         add_each(&mut self.torn, &[torn.min(1), torn]);
+        self.no_bytes.add(&given.trace, outcome);
     }
 
     fn named(&self) -> Vec<(String, u64)> {
@@ -377,6 +387,7 @@ impl Counts {
         let [traces, pairs] = self.torn;
         named.push(("traces with a torn store out of order".to_string(), traces));
         named.push(("pairs out of order of a torn store".to_string(), pairs));
+        named.extend(self.no_bytes.named());
         let areas = AREAS.iter().zip(self.areas);
         named.extend(areas.map(|(name, count)| (format!("area {name}"), count)));
         named
@@ -390,6 +401,7 @@ impl AddAssign for Counts {
         add_each(&mut self.answers, &other.answers);
         add_each(&mut self.findings, &other.findings);
         add_each(&mut self.torn, &other.torn);
+        self.no_bytes += other.no_bytes;
         add_each(&mut self.areas, &other.areas);
     }
 }
@@ -409,8 +421,13 @@ pub fn add_each(counts: &mut [u64], others: &[u64]) {
 /// The name of answers refused by 10, which no trace is long enough for.
 const IMPOSSIBLE: &str = "refused by 10";
 
+/// The number that is not given any more.
+const NO_REFUSAL: usize = 8;
+
 pub fn named_answers(answers: &[u64; 15]) -> impl Iterator<Item = (String, u64)> + '_ {
-    answers.iter().enumerate().map(|(number, &count)| {
+    let given = answers.iter().enumerate();
+    let given = given.filter(|&(number, _)| number != NO_REFUSAL);
+    given.map(|(number, &count)| {
         let name = match number {
             0 => "accepted".to_string(),
             _ => format!("refused by {number}"),
@@ -628,7 +645,12 @@ pub fn command(judges: &[Judge], traces: u64, seed: u64) -> Result<String, Strin
 pub mod tests {
     use super::*;
     use crate::judge::judge;
+    use crate::no_bytes::tests::{
+        back_to_size, beyond_size, hidden, replaced, set_empty_ends, set_findings, with_8,
+        with_byte,
+    };
     use crate::plain::tests::{judge_from_start, judge_whole};
+    use reference::event::Event;
 
     pub const RIGHT: Judge = Judge {
         name: "right",
@@ -636,7 +658,7 @@ pub mod tests {
     };
 
     /// Judges that do something wrong, which needs no model to be seen.
-    pub const WRONG: [Judge; 7] = [
+    pub const WRONG: [Judge; 8] = [
         wrong("flips a kind byte", |trace, area| {
             let answer = judge(trace, area);
             flip(answer, area, |_| 0, 0x80)
@@ -689,6 +711,15 @@ pub mod tests {
                 refused => refused,
             }
         }),
+        wrong("still gives 8", |trace, area| {
+            match judge(&hidden(trace), area) {
+                Answer::Refused { number, record } => Answer::Refused {
+                    number: with_8(trace, number, record),
+                    record,
+                },
+                accepted => accepted,
+            }
+        }),
     ];
 
     /// Flips bits of the site in the last finding, which only a model can tell.
@@ -701,6 +732,44 @@ pub mod tests {
     const WRONG_WORDS: [Judge; 2] = [
         wrong("takes a store on one line as whole", judge_whole),
         wrong("takes words from the store's start", judge_from_start),
+    ];
+
+    /// Take ranges of no bytes by another rule, which only a model can tell.
+    const WRONG_NO_BYTES: [Judge; 9] = [
+        wrong(
+            "takes a store of no bytes for one at an end",
+            |trace, area| {
+                let answer = judge(trace, area);
+                set_empty_ends(trace, area, answer, Kind::Holds)
+            },
+        ),
+        wrong("refuses at the window's size", |trace, area| {
+            judge(&replaced(trace, beyond_size), area)
+        }),
+        wrong("takes beyond the window's size", |trace, area| {
+            judge(&replaced(trace, back_to_size), area)
+        }),
+        wrong("stores to the byte at the address", |trace, area| {
+            judge(&with_byte(trace, Event::STORE), area)
+        }),
+        wrong("writes back the line of the address", |trace, area| {
+            judge(&with_byte(trace, Event::WRITE_BACK), area)
+        }),
+        wrong("logs the byte at the address", |trace, area| {
+            judge(&with_byte(trace, Event::LOG), area)
+        }),
+        wrong("calls a persisted lost", |trace, area| {
+            let answer = judge(trace, area);
+            set_findings(trace, area, answer, (Event::PERSISTED, 2), Kind::Lost)
+        }),
+        wrong("calls an ordered out of order by A", |trace, area| {
+            let answer = judge(trace, area);
+            set_findings(trace, area, answer, (Event::ORDERED, 2), Kind::OutOfOrder)
+        }),
+        wrong("calls an ordered out of order by B", |trace, area| {
+            let answer = judge(trace, area);
+            set_findings(trace, area, answer, (Event::ORDERED, 6), Kind::OutOfOrder)
+        }),
     ];
 
     const fn wrong(name: &'static str, call: fn(&[u8], &mut [u8]) -> Answer) -> Judge {
@@ -735,7 +804,8 @@ pub mod tests {
 
     #[test]
     fn every_wrong_judge_is_found() {
-        for judge in WRONG.iter().chain([&WRONG_SITE]).chain(&WRONG_WORDS) {
+        let by_model = WRONG_WORDS.iter().chain(&WRONG_NO_BYTES);
+        for judge in WRONG.iter().chain([&WRONG_SITE]).chain(by_model) {
             let found = difference(&[RIGHT, *judge]);
             assert_eq!(found.judge, judge.name);
             let again = difference(&[*judge]);

@@ -3,8 +3,9 @@
 use crate::differential::{
     add_each, counted, drawn, random_for, saved, spread, target_file, FILE, MAX_RECORDS, TRACES,
 };
+use crate::no_bytes;
 use reference::event::{Event, LINE};
-use reference::random::{self, Mix, Random, Shape};
+use reference::random::{self, Random, Shape};
 use reference::{trace, Range, Record};
 use std::hint::black_box;
 use std::ops::AddAssign;
@@ -22,8 +23,8 @@ pub struct Exposing {
 }
 
 /// The numbers that a trace can be refused by. No trace is long enough for 10, and there is no
-/// findings area for 14.
-pub const REFUSALS: [u32; 13] = [1, 2, 3, 4, 5, 6, 7, 8, 9, 11, 12, 13, 17];
+/// findings area for 14; 8 is not given any more.
+pub const REFUSALS: [u32; 12] = [1, 2, 3, 4, 5, 6, 7, 9, 11, 12, 13, 17];
 
 /// Every number that this divides has a second trace, of wide stores.
 const EVERY: u64 = 20;
@@ -91,16 +92,14 @@ fn traces(seed: u64, number: u64) -> Vec<Vec<u8>> {
 }
 
 /// A trace of stores of any length, with many fences between them and their write-backs, so that the
-/// sums are large.
+/// sums are large. One in four gets ranges of no bytes.
 fn wide(random: &mut Random) -> Vec<u8> {
     let lines = random.pick(&[1, 2, 5, 32, 63, 64, 64]);
     let window = lines * LINE as u16;
     let shape = Shape {
         lines,
-        events: 0,
-        mix: Mix::EVEN,
         longest: window,
-        ranges: 0,
+        ..random::any_shape(random)
     };
     let mut events = Vec::new();
     for _ in 0..1 + random.below(4) {
@@ -119,7 +118,11 @@ fn wide(random: &mut Random) -> Vec<u8> {
         site: random.bits() as u16,
     };
     let records: Vec<Record> = events.into_iter().map(&mut with_site).collect();
-    trace::write(lines, &[], &records)
+    let mut trace = trace::write(lines, &[], &records);
+    if random.chance(1, 4) {
+        no_bytes::put_some(random, &mut trace);
+    }
+    trace
 }
 
 fn add_fences(random: &mut Random, events: &mut Vec<Event>) {
@@ -135,13 +138,16 @@ struct Counts {
     /// Of the exposures given: those with a remainder, those with a sum of 65,536 or more, and those
     /// of every byte of 64 lines.
     given: [u64; 3],
+    /// Exposures given of traces with a range of no bytes.
+    no_bytes: u64,
     /// Bytes whose interval is closed.
     bytes: u64,
 }
 
 impl Counts {
-    fn add(&mut self, answer: [u32; 5]) {
+    fn add(&mut self, trace: &[u8], answer: [u32; 5]) {
         self.answers[place_of(answer[0])] += 1;
+        self.no_bytes += u64::from(answer[0] == 0 && no_bytes::any_in_trace(trace));
         let [_, _, quotient, remainder, divisor] = answer.map(u64::from);
         let sum = quotient * divisor + remainder;
         let given = [remainder > 0, sum >= 65_536, divisor == 4_096];
@@ -162,6 +168,8 @@ impl Counts {
         ];
         let given = given.iter().zip(self.given);
         named.extend(given.map(|(name, count)| (name.to_string(), count)));
+        let no_bytes = "exposures of traces with a range of no bytes";
+        named.push((no_bytes.to_string(), self.no_bytes));
         named.push(("bytes closed".to_string(), self.bytes));
         named
     }
@@ -184,6 +192,7 @@ impl AddAssign for Counts {
     fn add_assign(&mut self, other: Counts) {
         add_each(&mut self.answers, &other.answers);
         add_each(&mut self.given, &other.given);
+        self.no_bytes += other.no_bytes;
         self.bytes += other.bytes;
     }
 }
@@ -228,7 +237,7 @@ fn compare(calls: &[Exposing], numbers: u64, seed: u64) -> Result<Counts, Box<Di
             for trace in traces(seed, number) {
                 let before = Numbers::new(&mut random_for(seed, number));
                 let (expected, _) = before.after(reference_exposure, &trace);
-                counts.add(expected.answer);
+                counts.add(&trace, expected.answer);
                 for exposing in calls {
                     let (returned, kept) = before.after(exposing.call, &trace);
                     if returned != expected || !kept {
@@ -268,6 +277,7 @@ pub mod tests {
     use super::*;
     use crate::differential::given;
     use crate::exposure::exposure;
+    use crate::no_bytes::tests::{back_to_size, beyond_size, hidden, replaced, with_8, with_byte};
     use crate::plain;
     use reference::direct::Run;
     use reference::{singly, Interval};
@@ -278,7 +288,7 @@ pub mod tests {
     };
 
     /// Calls that answer what no call may, which needs no model to be seen.
-    pub const WRONG: [Exposing; 6] = [
+    pub const WRONG: [Exposing; 9] = [
         wrong("exchanges quotient and remainder", |trace, answer| {
             exposure(trace, answer);
             answer.swap(2, 3);
@@ -309,10 +319,23 @@ pub mod tests {
                 answer[0] = 14;
             }
         }),
+        wrong("still gives 8", |trace, answer| {
+            exposure(&hidden(trace), answer);
+            answer[0] = with_8(trace, answer[0], answer[1]);
+        }),
+        wrong("refuses no bytes at the window's size", |trace, answer| {
+            exposure(&replaced(trace, beyond_size), answer);
+        }),
+        wrong(
+            "takes no bytes beyond the window's size",
+            |trace, answer| {
+                exposure(&replaced(trace, back_to_size), answer);
+            },
+        ),
     ];
 
     /// Calls with another sum or another divisor.
-    const WRONG_MEANS: [Exposing; 9] = [
+    const WRONG_MEANS: [Exposing; 11] = [
         wrong("counts open bytes", |trace, answer| {
             remade(trace, answer, |run, seen| {
                 let open = seen.iter().filter_map(|byte| match byte.interval {
@@ -364,6 +387,15 @@ pub mod tests {
                 if matches!(answer[0], 0 | 17) {
                     *answer = mean(closed_by_lines(trace).into_iter().flatten());
                 }
+            },
+        ),
+        wrong("opens the byte of a store of no bytes", |trace, answer| {
+            exposure(&with_byte(trace, Event::STORE), answer);
+        }),
+        wrong(
+            "closes the line of a write-back of no bytes",
+            |trace, answer| {
+                exposure(&with_byte(trace, Event::WRITE_BACK), answer);
             },
         ),
         wrong("rounds up", |trace, answer| {

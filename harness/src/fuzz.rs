@@ -5,6 +5,7 @@ use crate::differential::{
     spread, target_file, threads, Given, Judge, Returned,
 };
 use crate::judge::Answer;
+use crate::no_bytes;
 use reference::event::{Event, Range, LINE, MAX_DEPTH};
 use reference::random::Random;
 use reference::trace::{raw_record, raw_trailer, MARK, MAX_TRACE, RECORD, TRAILER};
@@ -149,10 +150,11 @@ fn plausible_kind(random: &mut Random, depth: usize, nested: bool) -> u8 {
 /// A record of this kind. Of 1,000 values so many are at edges, its kind among them.
 fn plausible_record(random: &mut Random, kind: u8, lines: u16, edges: usize) -> [u8; RECORD] {
     let nothing = Range::new(0, 0);
+    let mut range = || small_range(random, lines, edges);
     let (a, b) = match kind {
         Event::FENCE | Event::BEGIN | Event::END => (nothing, nothing),
-        Event::ORDERED => (small_range(random, lines), small_range(random, lines)),
-        _ => (small_range(random, lines), nothing),
+        Event::ORDERED => (range(), range()),
+        _ => (range(), nothing),
     };
     let mut record = raw_record(kind, 0, a, b, random.bits() as u16);
     if random.chance(edges, 1_000) {
@@ -170,9 +172,16 @@ fn plausible_record(random: &mut Random, kind: u8, lines: u16, edges: usize) -> 
     record
 }
 
-fn small_range(random: &mut Random, lines: u16) -> Range {
-    let length = 1 + random.below(LINE / 2) as u16;
+/// A range inside the window. One in eight has no byte; of 200 of these so many are beyond it.
+fn small_range(random: &mut Random, lines: u16, edges: usize) -> Range {
     let window = usize::from(lines) * LINE;
+    if random.chance(1, 8) {
+        return match random.chance(edges, 200) {
+            true => no_bytes::beyond(random, window),
+            false => no_bytes::inside(random, window),
+        };
+    }
+    let length = 1 + random.below(LINE / 2) as u16;
     let address = random.below(window - usize::from(length) + 1);
     Range::new(address as u16, length)
 }
@@ -266,8 +275,8 @@ fn violation(given: &Given, returned: &Returned) -> Option<String> {
 fn bad_refusal(given: &Given, number: u32, record: u32) -> Option<String> {
     let good = match number {
         1..=5 | 13 | 14 => record == 0,
-        // No trace is long enough for number 10.
-        6..=9 | 11 | 12 => record >= 1 && Some(record) <= trailer_count(&given.trace),
+        // No trace is long enough for number 10, and 8 is not given any more.
+        6 | 7 | 9 | 11 | 12 => record >= 1 && Some(record) <= trailer_count(&given.trace),
         _ => false,
     };
     (!good).then(|| "no such refusal".to_string())
@@ -316,6 +325,8 @@ struct Counts {
     answers: [u64; 15],
     classes: [u64; CLASSES.len()],
     accepted: [u64; CLASSES.len()],
+    /// Accepted with a range of no bytes.
+    no_bytes: u64,
 }
 
 impl Counts {
@@ -327,6 +338,7 @@ impl Counts {
             Some(Answer::Accepted { .. }) => {
                 self.answers[0] += 1;
                 self.accepted[class_of(number)] += 1;
+                self.no_bytes += u64::from(no_bytes::any_in_trace(&given.trace));
             }
             None => {}
         }
@@ -339,6 +351,8 @@ impl Counts {
             ("bytes".to_string(), self.bytes),
         ];
         named.extend(named_answers(&self.answers));
+        let no_bytes = "accepted strings with a range of no bytes";
+        named.push((no_bytes.to_string(), self.no_bytes));
         named
     }
 
@@ -359,6 +373,7 @@ impl AddAssign for Counts {
         add_each(&mut self.answers, &other.answers);
         add_each(&mut self.classes, &other.classes);
         add_each(&mut self.accepted, &other.accepted);
+        self.no_bytes += other.no_bytes;
     }
 }
 
@@ -556,7 +571,7 @@ mod tests {
         let bad = |number, record| bad_refusal(&given, number, record).is_some();
         for number in 0..20 {
             let at_trailer = matches!(number, 1..=5 | 13 | 14);
-            let at_record = matches!(number, 6..=9 | 11 | 12);
+            let at_record = matches!(number, 6 | 7 | 9 | 11 | 12);
             assert_eq!(bad(number, 0), !at_trailer);
             assert_eq!(bad(number, 1), !at_record);
             assert_eq!(bad(number, 2), !at_record);

@@ -2,11 +2,12 @@
 //! of an exposure with the records, and the time to lay findings out with the rows.
 
 use crate::bench::{best_times, how_measured, longest, number, ratio, thousands, Call, CHECKERS};
+use crate::mixes::{random_events, EVEN, PLAIN};
 use crate::plain_pages::{self, length, MOST_FINDINGS};
 use crate::workloads::MOST;
-use crate::workloads::{durable_rounds, large_ordered, large_persisted, random_events, trace_of};
+use crate::workloads::{durable_rounds, large_ordered, large_persisted, trace_of};
 use crate::{exposure, pages, plain};
-use reference::random::{Mix, Random};
+use reference::random::Random;
 use reference::{Event, Finding, Kind, Range};
 
 /// Traces of growing size.
@@ -48,7 +49,7 @@ const EXPOSURES: [Call<[u32; 5]>; 2] = [
 /// Traces with records from 64 on, each time twice as many, up to the most.
 fn exposed_traces() -> Vec<(usize, Vec<u8>)> {
     let twice = |&records: &usize| (records < MOST).then_some((2 * records).min(MOST));
-    let trace = |records| trace_of(random_events(&mut Random::new(1), records, 16, Mix::PLAIN));
+    let trace = |records| trace_of(random_events(&mut Random::new(1), records, 16, PLAIN));
     std::iter::successors(Some(64), twice)
         .map(|records| (records, trace(records)))
         .collect()
@@ -180,7 +181,7 @@ fn growing(first: u16, last: u16, events: impl Fn(u16) -> Vec<Event>) -> Vec<(u1
 /// A random mix that has 85 records with the ends of its transactions.
 fn block_of_85() -> Vec<Event> {
     (0..)
-        .map(|seed| random_events(&mut Random::new(seed), 84, 16, Mix::EVEN))
+        .map(|seed| random_events(&mut Random::new(seed), 84, 16, EVEN))
         .find(|events| events.len() == 85)
         .expect("a seed whose mix leaves one transaction to end")
 }
@@ -219,7 +220,29 @@ fn row(size: f64, times: [f64; 2], before: Option<[f64; 2]>) -> String {
 mod tests {
     use super::{exposed_traces, findings_areas, series, EXPOSURES, LAYOUTS};
     use crate::plain_pages::length;
+    use crate::workloads::tests::hash;
     use reference::{pages, Kind};
+
+    /// Times of this version are compared with those of others.
+    #[test]
+    fn the_traces_are_those_of_every_version() {
+        let of_series = |traces: &[(u16, Vec<u8>)]| {
+            let traces = traces.iter().flat_map(|(_, trace)| trace);
+            hash(&traces.copied().collect::<Vec<u8>>())
+        };
+        let hashes = series().map(|series| of_series(&series.traces));
+        let exposed = exposed_traces().into_iter().flat_map(|(_, trace)| trace);
+        let exposed = hash(&exposed.collect::<Vec<u8>>());
+        let expected = [
+            0xf9d1_8618_070d_7d4a,
+            0xf198_b91c_c53d_3edb,
+            0x312a_9eec_b521_7218,
+            0x60c5_7d36_6331_39c8,
+            0xcbf5_2d50_510c_7088,
+        ];
+        assert_eq!(hashes, expected, "{hashes:#x?}");
+        assert_eq!(exposed, 0xf942_7f06_1fd4_9a0f, "{exposed:#x}");
+    }
 
     #[test]
     fn every_trace_is_accepted_and_no_named_assertion_is_broken() {

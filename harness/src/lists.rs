@@ -1,6 +1,7 @@
 //! Random lists of calls to a writer.
 
 use crate::differential::bytes;
+use crate::no_bytes;
 use crate::writer::Call;
 use reference::event::{Event, Range, LINE, MAX_LINES};
 use reference::random::{self, Mix, Random, Shape};
@@ -57,8 +58,8 @@ fn plan(random: &mut Random) -> Plan {
     }
 }
 
-/// A start, events with refused ones among them, and closings. In some lists the first start is
-/// refused, and in some no start is given.
+/// A start, events with refused ones and ones of no bytes among them, and closings. In some lists the
+/// first start is refused, and in some no start is given.
 fn calls(random: &mut Random, plan: &Plan) -> Vec<Call> {
     let mut calls = Vec::new();
     if random.chance(1, 10) {
@@ -67,12 +68,19 @@ fn calls(random: &mut Random, plan: &Plan) -> Vec<Call> {
     if random.chance(9, 10) {
         calls.push(start(random, plan.preamble, plan.shape.lines));
     }
-    let faults = random.pick(&[0, 1, 4]);
+    let (faults, empty) = (random.pick(&[0, 1, 4]), random.pick(&[0, 1, 4]));
+    let window = window(&plan.shape);
     for record in random::events(random, &plan.shape) {
         if random.chance(faults, 16) {
             calls.extend(faulty(random, &plan.shape).map(Call::Event));
         }
-        calls.push(Call::Event(trace::encode(&record)));
+        let mut record = trace::encode(&record);
+        if random.chance(empty, 16) {
+            no_bytes::put(random, &mut record, |random| {
+                no_bytes::inside(random, window)
+            });
+        }
+        calls.push(Call::Event(record));
         if random.chance(1, plan.closings) {
             calls.extend(vec![Call::Close; 1 + random.below(2)]);
         }
@@ -82,6 +90,11 @@ fn calls(random: &mut Random, plan: &Plan) -> Vec<Call> {
     }
     calls.push(Call::Close);
     calls
+}
+
+/// The bytes of the window.
+fn window(shape: &Shape) -> usize {
+    usize::from(shape.lines) * LINE
 }
 
 fn start(random: &mut Random, preamble: usize, lines: u16) -> Call {
@@ -113,8 +126,10 @@ fn faulty(random: &mut Random, shape: &Shape) -> impl Iterator<Item = [u8; RECOR
         0 => record[0] = random.pick(&[0, 9, 10, 128, 255]),
         1 => set_fields(random, &mut record, 1),
         2 => set_fields(random, &mut record, 4),
-        3 => past_window(random, &mut record, shape.lines),
-        4 => record[random.pick(&[4, 4, 8])..][..2].fill(0),
+        3 => past_window(random, &mut record, window(shape)),
+        4 => no_bytes::put(random, &mut record, |random| {
+            no_bytes::beyond(random, window(shape))
+        }),
         5 => {
             record = bytes(random, RECORD).try_into().expect("twelve bytes");
             record[..2].copy_from_slice(&[kind, 0]);
@@ -151,8 +166,7 @@ fn set_fields(random: &mut Random, record: &mut [u8; RECORD], count: usize) {
 }
 
 /// Sets a range to one that ends a byte behind the window, or behind 65,535.
-fn past_window(random: &mut Random, record: &mut [u8; RECORD], lines: u16) {
-    let window = usize::from(lines) * LINE;
+fn past_window(random: &mut Random, record: &mut [u8; RECORD], window: usize) {
     let length = 1 + random.below(window);
     let address = match random.below(2) {
         0 => window - length + 1,

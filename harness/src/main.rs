@@ -12,6 +12,8 @@ mod fuzz;
 mod growth;
 mod judge;
 mod lists;
+mod mixes;
+mod no_bytes;
 mod page_fuzz;
 mod pages;
 mod plain;

@@ -107,7 +107,8 @@ pub struct Records<'a> {
     bytes: &'a [u8],
 }
 
-/// Checks a whole trace: 1 to 5, 14, 6 to 12 record by record, 13. No trace has the 65,536 records of 10.
+/// Checks a whole trace: 1 to 5, 14; record by record 6, 7, 9, 11 and 12; 13. No trace has the 65,536 records
+/// of 10.
 pub fn open<'a>(trace: &'a [u8], area: &[u8]) -> Result<Records<'a>, Answer> {
     let records = open_trailer(trace).map_err(|number| refused(number, 0))?;
     if area.len() < records.bytes.len() {
@@ -179,7 +180,7 @@ fn open_trailer(trace: &[u8]) -> Result<Records<'_>, u32> {
     })
 }
 
-/// Refusals 6 to 9.
+/// Refusals 6, 7 and 9.
 fn check_record(record: &[u8], window: usize) -> Result<(), u32> {
     let used = match record[0] {
         3 | 4 | 6 => 0,
@@ -190,9 +191,6 @@ fn check_record(record: &[u8], window: usize) -> Result<(), u32> {
     let (ranges, lacking) = record[2..10].split_at(4 * used);
     if record[1] != 0 || lacking.iter().any(|&byte| byte != 0) {
         return Err(7);
-    }
-    if ranges.chunks_exact(4).any(|range| u16_at(range, 2) == 0) {
-        return Err(8);
     }
     if ranges
         .chunks_exact(4)
@@ -243,8 +241,11 @@ fn u32_at(bytes: &[u8], at: usize) -> u32 {
     u32::from(u16_at(bytes, at)) | u32::from(u16_at(bytes, at + 2)) << 16
 }
 
-/// The lines that hold a byte of the range.
+/// The lines that hold a byte of the range: none for a range of no bytes.
 pub fn lines_of(range: &Range<usize>) -> Range<usize> {
+    if range.is_empty() {
+        return 0..0;
+    }
     range.start / LINE..(range.end - 1) / LINE + 1
 }
 
@@ -337,6 +338,7 @@ struct Run {
     /// The lines that the next fence makes durable up to their last write-back.
     written: Vec<usize>,
     last_fence: u16,
+    /// The last store of at least one byte.
     last_store: u16,
     depth: usize,
     /// The outermost begin of the transaction that is open, if any is.
@@ -376,6 +378,9 @@ impl Run {
     }
 
     fn store(&mut self, a: Range<usize>) -> Finding {
+        if a.is_empty() {
+            return Finding::NONE;
+        }
         self.stored[a.clone()].fill(self.event);
         self.durable[a.clone()].fill(OPEN);
         self.line_stored[lines_of(&a)].fill(self.event);
@@ -495,9 +500,11 @@ impl Run {
 pub mod tests {
     use super::*;
     use crate::differential::answer_of;
+    use crate::no_bytes;
     use reference::area_after;
     use reference::random::{any_shape, damaged, small_shape, torn_shape, valid, Random};
-    use reference::trace::MAX_TRACE;
+    use reference::trace::{assemble, raw_record, MAX_TRACE};
+    use reference::Event as Read;
 
     /// Whether two bytes that one store set on one line are kept or lost together, by the address of the
     /// store.
@@ -582,17 +589,148 @@ pub mod tests {
         assert!(differ.iter().all(|&count| count > 300), "{differ:?}");
     }
 
-    /// A trace of a small or of any shape, or with torn stores; one in three is damaged.
+    /// A trace of a small or of any shape, or with torn stores; one in three is damaged, and one in four gets ranges
+    /// of no bytes.
     pub fn random_trace(random: &mut Random) -> Vec<u8> {
         let shape = match random.below(3) {
             0 => small_shape(random),
             1 => torn_shape(random),
             _ => any_shape(random),
         };
-        match random.below(3) {
+        let mut trace = match random.below(3) {
             0 => damaged(random, &shape),
             _ => valid(random, &shape),
+        };
+        if random.chance(1, 4) {
+            no_bytes::put_some(random, &mut trace);
         }
+        trace
+    }
+
+    /// A trace of these kinds with their ranges A and B, each an address and a length.
+    fn trace_of(lines: u16, records: &[(u8, [u16; 4])]) -> Vec<u8> {
+        let record = |&(kind, [a, a_length, b, b_length]): &(u8, [u16; 4])| {
+            let a = reference::Range::new(a, a_length);
+            let b = reference::Range::new(b, b_length);
+            raw_record(kind, 0, a, b, 0)
+        };
+        let records: Vec<_> = records.iter().map(record).collect();
+        assemble(lines, &[], &records)
+    }
+
+    /// The first five numbers of each finding, or the refusal.
+    fn findings(
+        judge: fn(&[u8], &mut [u8]) -> Answer,
+        trace: &[u8],
+    ) -> Result<Vec<[u16; 5]>, Answer> {
+        let mut area = vec![0; trace.len()];
+        match judge(trace, &mut area) {
+            Answer::Accepted { events, .. } => {
+                area.truncate(RECORD * events as usize);
+                let numbers = |finding: &[u8]| [0, 2, 4, 6, 8].map(|at| u16_at(finding, at));
+                Ok(area.chunks_exact(RECORD).map(numbers).collect())
+            }
+            refused => Err(refused),
+        }
+    }
+
+    /// Expects these findings of plain and of the checker by ranges.
+    fn expect(trace: &[u8], expected: Result<Vec<[u16; 5]>, Answer>) {
+        for judge in [judge, crate::ranges::judge] {
+            assert_eq!(findings(judge, trace), expected, "{trace:?}");
+        }
+    }
+
+    /// Expects, in a window of two lines, the finding beside each record.
+    fn expect_each(records: &[(u8, [u16; 4], [u16; 5])]) {
+        let given: Vec<_> = records.iter().map(|record| (record.0, record.1)).collect();
+        let expected = records.iter().map(|record| record.2).collect();
+        expect(&trace_of(2, &given), Ok(expected));
+    }
+
+    const NONE: [u16; 5] = [0; 5];
+    const HOLDS: [u16; 5] = [1, 0, 0, 0, 0];
+    const EMPTY: [u16; 5] = [8, 0, 0, 0, 0];
+
+    #[test]
+    fn no_bytes_warn_of_nothing_and_hold() {
+        for address in [0, 4, 63, 64, 127, 128] {
+            let (a, stored) = ([address, 0, 0, 0], [0, 8, 0, 0]);
+            let records = [
+                (Read::WRITE_BACK, a, NONE),
+                (Read::STORE, a, NONE),
+                (Read::STORE, stored, NONE),
+                (Read::PERSISTED, a, HOLDS),
+                (Read::ORDERED, [address, 0, 0, 8], HOLDS),
+                (Read::ORDERED, [0, 8, address, 0], HOLDS),
+                (Read::ORDERED, [address, 0, address, 0], HOLDS),
+                (Read::WRITE_BACK, a, NONE),
+                (Read::FENCE, [0; 4], NONE),
+                (Read::PERSISTED, stored, [2, 0, 0, 10, 3]),
+            ];
+            expect_each(&records);
+        }
+    }
+
+    #[test]
+    fn no_bytes_change_nothing_in_a_transaction() {
+        for address in [0, 4, 8, 64, 128] {
+            let (a, stored) = ([address, 0, 0, 0], [0, 8, 0, 0]);
+            let records = [
+                (Read::BEGIN, [0; 4], NONE),
+                (Read::STORE, a, NONE),
+                (Read::BEGIN, [0; 4], NONE),
+                (Read::LOG, a, NONE),
+                (Read::END, [0; 4], NONE),
+                (Read::END, [0; 4], EMPTY),
+                (Read::BEGIN, [0; 4], NONE),
+                (Read::LOG, a, NONE),
+                (Read::LOG, stored, NONE),
+                (Read::LOG, a, NONE),
+                (Read::STORE, stored, NONE),
+                (Read::STORE, a, NONE),
+                (Read::WRITE_BACK, stored, NONE),
+                (Read::FENCE, [0; 4], NONE),
+                (Read::STORE, a, NONE),
+                (Read::END, [0; 4], HOLDS),
+            ];
+            expect_each(&records);
+        }
+    }
+
+    #[test]
+    fn no_bytes_are_taken_up_to_the_size_of_the_window() {
+        for lines in [1, 2, 63, 64] {
+            let size = lines * LINE as u16;
+            for (kind, finding) in [
+                (Read::STORE, NONE),
+                (Read::WRITE_BACK, NONE),
+                (Read::LOG, NONE),
+                (Read::PERSISTED, HOLDS),
+                (Read::ORDERED, HOLDS),
+            ] {
+                let at = |address: u16| {
+                    let record = (kind, [address, 0, 0, 0]);
+                    trace_of(lines, &[(Read::BEGIN, [0; 4]), record, (Read::END, [0; 4])])
+                };
+                expect(&at(size), Ok(vec![NONE, finding, EMPTY]));
+                for beyond in [size + 1, size + 64, u16::MAX] {
+                    expect(&at(beyond), Err(refused(9, 2)));
+                }
+            }
+            let order = |b| trace_of(lines, &[(Read::ORDERED, [0, 0, b, 0])]);
+            expect(&order(size), Ok(vec![HOLDS]));
+            expect(&order(size + 1), Err(refused(9, 1)));
+        }
+    }
+
+    #[test]
+    fn no_bytes_are_refused_as_others_are() {
+        let alone = |kind, fields| trace_of(1, &[(kind, fields)]);
+        expect(&alone(Read::LOG, [0; 4]), Err(refused(11, 1)));
+        expect(&alone(Read::LOG, [65, 0, 0, 0]), Err(refused(9, 1)));
+        expect(&alone(Read::STORE, [65, 0, 1, 0]), Err(refused(7, 1)));
+        expect(&alone(9, [65, 0, 0, 0]), Err(refused(6, 1)));
     }
 
     /// Compares answer and area; whether the trace was accepted.

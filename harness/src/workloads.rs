@@ -1,7 +1,8 @@
-//! Traces to time checkers with. Each is accepted.
+//! Traces to time checkers with. Each is accepted, and each stays as it is: times are compared between versions.
 
+use crate::mixes::{random_events, EVEN, PLAIN};
 use reference::event::{self, MAX_LINES};
-use reference::random::{self, Mix, Random, Shape};
+use reference::random::Random;
 use reference::trace::{self, MAX_TRACE, RECORD, TRAILER};
 use reference::{Event, Range, Record};
 
@@ -144,38 +145,32 @@ pub fn durable_rounds(bytes: u16, count: usize) -> Vec<Event> {
     rounds.flatten().collect()
 }
 
-/// Random events of all kinds, ranges of up to so many bytes.
-pub fn random_events(random: &mut Random, events: usize, longest: u16, mix: Mix) -> Vec<Event> {
-    let shape = Shape {
-        lines: MAX_LINES,
-        events,
-        mix,
-        longest,
-        ranges: 32,
-    };
-    let records = random::events(random, &shape);
-    records.into_iter().map(|record| record.event).collect()
-}
-
 fn random_mixes(count: usize) -> Vec<Event> {
     let mut random = Random::new(33);
     (0..count)
-        .flat_map(|_| random_events(&mut random, 500, 128, Mix::EVEN))
+        .flat_map(|_| random_events(&mut random, 500, 128, EVEN))
         .collect()
 }
 
 fn largest() -> Vec<Event> {
     let mut random = Random::new(34);
-    let mut events = random_events(&mut random, MOST - 60, 16, Mix::EVEN);
+    let mut events = random_events(&mut random, MOST - 60, 16, EVEN);
     let missing = MOST - events.len();
-    events.extend(random_events(&mut random, missing, 16, Mix::PLAIN));
+    events.extend(random_events(&mut random, missing, 16, PLAIN));
     events
 }
 
 #[cfg(test)]
-mod tests {
+pub mod tests {
     use super::{all, MAX_TRACE, MOST};
     use reference::{Kind, Report};
+
+    /// FNV-1a of 64 bits.
+    pub fn hash(bytes: &[u8]) -> u64 {
+        bytes.iter().fold(0xcbf2_9ce4_8422_2325, |hash, &byte| {
+            (hash ^ u64::from(byte)).wrapping_mul(0x0100_0000_01b3)
+        })
+    }
 
     fn report(name: &str) -> Report {
         let workload = all().into_iter().find(|workload| workload.name == name);
@@ -187,6 +182,22 @@ mod tests {
     fn count(report: &Report, kind: Kind) -> usize {
         let findings = report.findings.iter();
         findings.filter(|finding| finding.kind == kind).count()
+    }
+
+    /// Times of this version are compared with those of others.
+    #[test]
+    fn the_traces_are_those_of_every_version() {
+        let hashes: Vec<u64> = all().iter().map(|workload| hash(&workload.trace)).collect();
+        let expected = [
+            0xc02f_75b0_cab0_eb8f,
+            0x5808_c6a8_6c3c_d8fc,
+            0x929f_843f_b58f_409c,
+            0x6cfb_45d6_b1e0_f66a,
+            0x4477_255e_4543_3954,
+            0x955d_a42d_a7a0_0d0d,
+            0x30a2_8c62_4578_7f45,
+        ];
+        assert_eq!(hashes, expected, "{hashes:#x?}");
     }
 
     #[test]

@@ -4,7 +4,7 @@ use crate::differential::{
     add_each, answer_of, bytes, counted, first_different, random_for, spread, TRACES,
 };
 use crate::writer::Call;
-use crate::{judge, lists};
+use crate::{judge, lists, no_bytes};
 use reference::outcome::findings_bytes;
 use reference::random::Random;
 use reference::trace::{self, MAX_TRACE, RECORD};
@@ -178,7 +178,7 @@ impl Written {
 /// The kinds of call, with the answers that each can have.
 const ANSWERS: [(&str, &[usize]); 3] = [
     ("start", &[0, 4, 2, 15]),
-    ("event", &[0, 2, 6, 7, 8, 9, 11, 12, 15]),
+    ("event", &[0, 2, 6, 7, 9, 11, 12, 15]),
     ("closing", &[0, 13, 15]),
 ];
 
@@ -196,6 +196,8 @@ struct Counts {
     lists: u64,
     /// By the kind of call: accepted at 0, refused by a number at that number.
     answers: [[u64; 16]; 3],
+    /// Events with a range of no bytes accepted, and events without another range refused by 9.
+    no_bytes: [u64; 2],
     /// Calls accepted of a writer that no start handed over.
     any_numbers: u64,
     /// Events that took a trailer's place.
@@ -205,6 +207,15 @@ struct Counts {
 }
 
 impl Counts {
+    /// Counts a call by the number of its answer.
+    fn add(&mut self, call: &Call, number: u32) {
+        self.answers[kind_of(call)][number as usize] += 1;
+        if let Call::Event(record) = call {
+            self.no_bytes[0] += u64::from(number == 0 && no_bytes::any_in(record));
+            self.no_bytes[1] += u64::from(number == 9 && no_bytes::all_in(record));
+        }
+    }
+
     fn named(&self) -> Vec<(String, u64)> {
         let mut named = vec![("lists of calls to the writer".to_string(), self.lists)];
         for ((call, numbers), counts) in ANSWERS.iter().zip(&self.answers) {
@@ -216,7 +227,10 @@ impl Counts {
                 (name, counts[number])
             }));
         }
+        let [taken, refused] = self.no_bytes;
         let rest = [
+            ("events accepted with a range of no bytes", taken),
+            ("events refused by 9 for a range of no bytes", refused),
             (
                 "calls accepted of a writer of any numbers",
                 self.any_numbers,
@@ -236,6 +250,7 @@ impl AddAssign for Counts {
         for (answers, others) in self.answers.iter_mut().zip(&other.answers) {
             add_each(answers, others);
         }
+        add_each(&mut self.no_bytes, &other.no_bytes);
         self.any_numbers += other.any_numbers;
         self.reopened += other.reopened;
         self.files += other.files;
@@ -304,7 +319,7 @@ impl Run {
         self.expected.make(reference_call, call);
         self.returned.make(writer.call, call);
         let [number, length] = self.expected.numbers.answer;
-        counts.answers[kind_of(call)][number as usize] += 1;
+        counts.add(call, number);
         if *call != before {
             return Some("the preamble changed".to_string());
         }
@@ -407,7 +422,9 @@ pub fn command(writer: &Writer, lists: u64, seed: u64) -> Result<String, String>
 #[cfg(test)]
 mod tests {
     use super::*;
+    use crate::no_bytes::tests::{back_to_size, beyond_size, hide, replace_in, Replace};
     use crate::writer::call as right_call;
+    use reference::event::LINE;
     use reference::trace::TRAILER;
     use reference::{Event, Record};
 
@@ -417,7 +434,7 @@ mod tests {
     };
 
     /// Writers that do something wrong.
-    const WRONG: [Writer; 14] = [
+    const WRONG: [Writer; 19] = [
         wrong(
             "puts an event behind the trailer",
             |call, area, writer, answer| {
@@ -545,7 +562,63 @@ mod tests {
                 }
             },
         ),
+        wrong("still gives 8", |call, area, writer, answer| {
+            let mut hidden = call.clone();
+            if let Call::Event(record) = &mut hidden {
+                hide(record);
+            }
+            right_call(&hidden, area, writer, answer);
+            if answer[0] == 6 && hidden != *call {
+                answer[0] = 8;
+            }
+        }),
+        wrong(
+            "refuses no bytes at the window's size",
+            |call, area, writer, answer| {
+                right_call(&replaced(call, writer, beyond_size), area, writer, answer);
+            },
+        ),
+        wrong(
+            "takes no bytes beyond the window's size",
+            |call, area, writer, answer| {
+                let end = end_of(writer);
+                right_call(&replaced(call, writer, back_to_size), area, writer, answer);
+                if let (Call::Event(record), [0, _]) = (call, *answer) {
+                    area[end..end + RECORD].copy_from_slice(record);
+                }
+            },
+        ),
+        wrong(
+            "writes no bytes at address 0",
+            |call, area, writer, answer| {
+                let end = end_of(writer);
+                right_call(call, area, writer, answer);
+                if let (Call::Event(mut record), [0, _]) = (call.clone(), *answer) {
+                    replace_in(&mut record, 0, |_, _| reference::Range::new(0, 0));
+                    area[end..end + RECORD].copy_from_slice(&record);
+                }
+            },
+        ),
+        wrong(
+            "leaves out a record of no bytes",
+            |call, area, writer, answer| match call {
+                Call::Event(record) if no_bytes::any_in(record) => {
+                    let (mut area, mut writer) = (area.to_vec(), *writer);
+                    right_call(call, &mut area, &mut writer, answer);
+                }
+                _ => right_call(call, area, writer, answer),
+            },
+        ),
     ];
+
+    /// The call with the ranges of no bytes of its record replaced, in the writer's window.
+    fn replaced(call: &Call, writer: &[u32; 4], replace: Replace) -> Call {
+        let mut replaced = call.clone();
+        if let Call::Event(record) = &mut replaced {
+            replace_in(record, LINE * usize::from(writer[0] as u16), replace);
+        }
+        replaced
+    }
 
     const fn wrong(name: &'static str, call: MakeCall) -> Writer {
         Writer { name, call }

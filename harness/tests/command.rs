@@ -50,6 +50,7 @@ fn small_runs_print_the_same_counts_each_time() {
             "differential",
             [
                 "traces 500\n",
+                "\nstores of no bytes ",
                 "\ntraces to the exposure 525\n",
                 "\nexposures compared with reference: proved, plain\nseed 7\ndiffer 0\n",
                 "\nlists of calls to the writer 500\n",
@@ -62,6 +63,7 @@ fn small_runs_print_the_same_counts_each_time() {
             [
                 "strings 500\n",
                 "\nbytes ",
+                "\naccepted strings with a range of no bytes ",
                 "\nstrings to the exposure 500\n",
                 "\nexposure proved\nseed 7\nbad 0\n",
                 "\nstrings to the pages 500\n",

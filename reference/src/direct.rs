@@ -148,7 +148,7 @@ pub struct Run {
     depth: usize,
     /// The outermost begin of the open transaction.
     begin: usize,
-    /// The last store event, 0 for none.
+    /// The last store of some byte, 0 for none.
     last_store: usize,
     /// The last log event of each byte, 0 for none.
     logged: Vec<usize>,
@@ -245,7 +245,9 @@ impl Run {
             line.opened[part].fill(self.fences);
             line.newest = self.events;
         }
-        self.last_store = self.events;
+        if a.has_bytes() {
+            self.last_store = self.events;
+        }
         if self.depth == 0 {
             return Finding::of(Kind::None);
         }

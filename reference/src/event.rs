@@ -15,7 +15,7 @@ pub const MAX_EVENTS: usize = 65_535;
 /// The largest number of transactions open at once.
 pub const MAX_DEPTH: usize = 8;
 
-/// Bytes from `address` on, `length` of them.
+/// Bytes from `address` on, `length` of them. A length of 0 is no byte and no line.
 #[derive(Clone, Copy, Debug, PartialEq, Eq, Hash)]
 pub struct Range {
     pub address: u16,
@@ -37,13 +37,17 @@ impl Range {
         usize::from(self.address)..self.end()
     }
 
+    pub fn has_bytes(self) -> bool {
+        self.length > 0
+    }
+
     pub fn covers(self, byte: usize) -> bool {
         self.bytes().contains(&byte)
     }
 
     /// The lines that hold a byte of the range, lowest first.
     pub fn lines(self) -> std::ops::Range<usize> {
-        if self.length == 0 {
+        if !self.has_bytes() {
             return 0..0;
         }
         usize::from(self.address) / LINE..(self.end() - 1) / LINE + 1
@@ -115,13 +119,11 @@ impl Event {
         }
     }
 
-    /// Refusals 8 and 9, in this order, for a window of so many bytes.
+    /// Refusal 9, for a window of so many bytes. A range of no bytes may start just behind the
+    /// window.
     pub fn check_ranges(self, window: usize) -> Result<(), u8> {
-        let used = [self.range_a(), self.range_b()];
-        if used.iter().flatten().any(|range| range.length == 0) {
-            return Err(8);
-        }
-        if used.iter().flatten().any(|range| range.end() > window) {
+        let mut used = [self.range_a(), self.range_b()].into_iter().flatten();
+        if used.any(|range| range.end() > window) {
             return Err(9);
         }
         Ok(())

@@ -814,6 +814,29 @@ mod tests {
         assert_eq!(images_of_line("store 0/64", 0, 1).len(), 257);
     }
 
+    /// A store of no bytes is no piece, and a write-back of none makes nothing survive.
+    #[test]
+    fn images_with_ranges_of_no_bytes() {
+        for events in ["store 0/0", "store 8/0; store 63/0; store 64/0"] {
+            let last = events.split(';').count();
+            for line in 0..3 {
+                assert_eq!(images_of_line(events, line, last), [(0, 0)]);
+            }
+        }
+        let two_words = [(0, 0b00), (0, 0b01), (0, 0b10), (0, 0b11), (1, 0)];
+        let inside = "store 0/16; store 8/0; store 0/0";
+        for moment in 1..=3 {
+            assert_eq!(images_of_line(inside, 0, moment), two_words);
+        }
+        let not_written = "store 0/16; write-back 0/0; write-back 8/0; fence";
+        for moment in 1..=4 {
+            assert_eq!(images_of_line(not_written, 0, moment), two_words);
+        }
+        let written = "store 0/16; write-back 0/1; store 4/0; fence";
+        assert_eq!(images_of_line(written, 0, 3), two_words);
+        assert_eq!(images_of_line(written, 0, 4), [(1, 0)]);
+    }
+
     /// What must survive survives whole.
     #[test]
     fn images_after_a_write_back_and_a_fence() {
@@ -918,6 +941,10 @@ mod tests {
         );
         let between = intervals_by_images("store 0/2; write-back 0/1; store 1/1; fence");
         assert_eq!(between, [(0, closed(0, 1)), (1, open(0))]);
+        assert_eq!(intervals_by_images("store 0/0; store 64/0; fence"), []);
+        let no_bytes =
+            "store 0/1; write-back 0/0; fence; store 0/0; write-back 0/1; store 0/0; fence";
+        assert_eq!(intervals_by_images(no_bytes), [(0, closed(0, 2))]);
     }
 
     /// Also of lists with too many images for every exposure that is asked.

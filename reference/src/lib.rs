@@ -15,6 +15,8 @@
 //! Module [`pages`] lays the findings of a findings area out for print, module [`read_back`] checks
 //! such pages, and module [`page_calls`] makes a file of calls of the pages and the text of their
 //! answers.
+//!
+//! Module [`no_bytes`] counts the events with a range of no bytes, and judges a list without them.
 
 pub mod calls;
 pub mod check;
@@ -25,6 +27,7 @@ pub mod exposure;
 pub mod finding;
 pub mod images;
 pub mod interval;
+pub mod no_bytes;
 pub mod outcome;
 pub mod page_calls;
 pub mod pages;
@@ -119,7 +122,7 @@ struct Whole<W> {
 }
 
 impl<W: Way> Whole<W> {
-    /// Gives the records of a trace to a fresh run, and closes it. Refusals 6 to 13.
+    /// Gives the records of a trace to a fresh run, and closes it. Refusals 6, 7 and 9 to 13.
     fn of(body: &trace::Body) -> Result<Whole<W>, Refusal> {
         let mut way = W::fresh(body.lines);
         let mut findings = Vec::with_capacity(body.count());

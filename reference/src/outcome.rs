@@ -4,6 +4,9 @@ use crate::finding::{Finding, Kind};
 use crate::trace::RECORD;
 use std::fmt::Write;
 
+/// The numbers of the refusals that a trace can get. 8 is no longer given.
+pub const OF_TRACES: [u8; 13] = [1, 2, 3, 4, 5, 6, 7, 9, 10, 11, 12, 13, 14];
+
 /// A refusal: its number, and the record's number from 1 (0 for trailer, area, closing, and the
 /// calls on single events).
 #[derive(Clone, Copy, Debug, PartialEq, Eq, Hash)]

@@ -104,6 +104,8 @@ pub struct Shape {
     pub longest: u16,
     /// How many ranges the events of one trace choose from; 0 for a new one each time.
     pub ranges: usize,
+    /// How many of 100 ranges have no byte.
+    pub no_bytes: usize,
 }
 
 /// A list of events that is accepted, every transaction ended.
@@ -162,24 +164,27 @@ fn event(
         4 => Event::Persisted(pooled(random, shape, pool)),
         5 => Event::Ordered(pooled(random, shape, pool), pooled(random, shape, pool)),
         _ => {
-            let whole = stored(random, before).unwrap_or_else(|| pooled(random, shape, pool));
-            Event::Ordered(part(random, whole), part(random, whole))
+            let whole = stored(random, before).unwrap_or_else(|| range(random, shape));
+            Event::Ordered(part(random, shape, whole), part(random, shape, whole))
         }
     }
 }
 
-/// One of the latest stores, if there is one.
+/// One of the latest stores of some byte, if there is one.
 fn stored(random: &mut Random, before: &[Record]) -> Option<Range> {
     let stores = before.iter().rev().filter_map(|record| match record.event {
-        Event::Store(a) => Some(a),
+        Event::Store(a) if a.has_bytes() => Some(a),
         _ => None,
     });
     let latest: Vec<Range> = stores.take(3).collect();
     (!latest.is_empty()).then(|| random.pick(&latest))
 }
 
-/// A part of the range: one of at most a word's length, or of any.
-fn part(random: &mut Random, range: Range) -> Range {
+/// A part of the range, which has bytes: one of at most a word's length, or of any, or of no byte.
+fn part(random: &mut Random, shape: &Shape, range: Range) -> Range {
+    if random.chance(shape.no_bytes, 100) {
+        return without_bytes(random, range);
+    }
     let most = if random.chance(3, 4) {
         range.length.min(WORD as u16)
     } else {
@@ -201,14 +206,47 @@ fn transaction_event(random: &mut Random, shape: &Shape, pool: &[Range], depth: 
     }
 }
 
+/// One of the ranges to choose from, or a new one; some of them without their bytes.
 fn pooled(random: &mut Random, shape: &Shape, pool: &[Range]) -> Range {
-    if pool.is_empty() || random.chance(1, 12) {
-        return range(random, shape);
+    let range = if pool.is_empty() || random.chance(1, 12) {
+        range(random, shape)
+    } else {
+        random.pick(pool)
+    };
+    if !random.chance(shape.no_bytes, 100) {
+        return range;
     }
-    random.pick(pool)
+    match random.below(4) {
+        0 => empty_range(random, shape),
+        _ => without_bytes(random, range),
+    }
 }
 
-/// A range inside the window; often at the edge of a line.
+/// No byte, at an address of the range or just behind it.
+fn without_bytes(random: &mut Random, range: Range) -> Range {
+    let edges = [
+        0,
+        range.length,
+        random.below(usize::from(range.length) + 1) as u16,
+    ];
+    Range::new(range.address + random.pick(&edges), 0)
+}
+
+/// No byte, at an address up to the window's size; often at the edge of a line.
+fn empty_range(random: &mut Random, shape: &Shape) -> Range {
+    let window = usize::from(shape.lines) * LINE;
+    let edge = random.below(usize::from(shape.lines) + 1) * LINE;
+    let address = match random.below(6) {
+        0 => 0,
+        1 => window,
+        2 => edge,
+        3 => edge.saturating_sub(1),
+        _ => random.below(window + 1),
+    };
+    Range::new(address as u16, 0)
+}
+
+/// A range of some bytes inside the window; often at the edge of a line.
 pub fn range(random: &mut Random, shape: &Shape) -> Range {
     let window = usize::from(shape.lines) * LINE;
     let longest = usize::from(shape.longest).min(window);
@@ -355,14 +393,19 @@ fn edge_of_record(random: &mut Random, trace: &mut [u8]) {
         return;
     }
     let start = random.pick(&starts);
-    match random.below(6) {
+    let values = [0, 1, 63, 64, 65, 127, 128, 4095, 4096, 4097, u16::MAX];
+    let value = random.pick(&values).to_le_bytes();
+    match random.below(7) {
         0 => trace[start] = random.pick(&[0, 1, 2, 3, 4, 5, 6, 7, 8, 9, 255]),
         1 => trace[start + 1] = random.pick(&[1, 128, 255]),
+        2 => {
+            // A range of no bytes.
+            let at = start + random.pick(&[2, 2, 6]);
+            trace[at..at + 4].copy_from_slice(&[value[0], value[1], 0, 0]);
+        }
         _ => {
-            let values = [0, 1, 63, 64, 65, 127, 128, 4095, 4096, 4097, u16::MAX];
-            let value = random.pick(&values);
             let at = start + random.pick(&[2, 4, 6, 8]);
-            trace[at..at + 2].copy_from_slice(&value.to_le_bytes());
+            trace[at..at + 2].copy_from_slice(&value);
         }
     }
 }
@@ -382,6 +425,7 @@ pub fn small_shape(random: &mut Random) -> Shape {
         mix: random.pick(&mixes),
         longest: random.pick(&[2, 4, 8, 16]),
         ranges: 3 + random.below(5),
+        no_bytes: random.pick(&[0, 3, 3, 6, 30]),
     }
 }
 
@@ -409,5 +453,6 @@ pub fn torn_shape(random: &mut Random) -> Shape {
         mix: Mix::WITHIN,
         longest: random.pick(&[9, 12, 16, 24, 24]),
         ranges: 2 + random.below(4),
+        no_bytes: random.pick(&[0, 3, 3, 6, 20]),
     }
 }

@@ -2,7 +2,7 @@
 
 use crate::event::{Event, Range, Record};
 use crate::finding::{Finding, Kind};
-use crate::outcome::Refusal;
+use crate::outcome::{Refusal, OF_TRACES};
 use crate::trace::{self, RECORD};
 use std::fmt::Write;
 
@@ -216,7 +216,7 @@ impl Reader {
             return Err("it is `refused N at R`".to_string());
         };
         let refusal = number(refusal)?;
-        let known = u8::try_from(refusal).ok().filter(|n| (1..=14).contains(n));
+        let known = u8::try_from(refusal).ok().filter(|n| OF_TRACES.contains(n));
         self.script.refused = Some(Refusal {
             number: known.ok_or_else(|| format!("no refusal has the number {refusal}"))?,
             record: usize::from(number(record)?),

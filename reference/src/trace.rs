@@ -62,14 +62,14 @@ pub fn open(trace: &[u8]) -> Result<Body<'_>, u8> {
     })
 }
 
-/// Reads a record. Refusals 6 to 9, in this order.
+/// Reads a record. Refusals 6, 7 and 9, in this order.
 pub fn decode(bytes: &[u8; RECORD], lines: u16) -> Result<Record, u8> {
     let record = read(bytes)?;
     record.event.check_ranges(usize::from(lines) * LINE)?;
     Ok(record)
 }
 
-/// Reads a record whose ranges may be bad. Refusals 6 and 7, in this order.
+/// Reads a record whose ranges may run past the window. Refusals 6 and 7, in this order.
 pub fn read(bytes: &[u8; RECORD]) -> Result<Record, u8> {
     let kind = bytes[0];
     let a = Range::new(u16_at(bytes, 2), u16_at(bytes, 4));

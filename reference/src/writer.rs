@@ -38,7 +38,7 @@ pub fn start(area: &mut [u8], preamble: &[u8], lines: u16) -> Result<Writer, u8>
     Ok(writer)
 }
 
-/// Gives the event of a record's bytes. Refusals 2, 6 to 12 and 15, in this order.
+/// Gives the event of a record's bytes. Refusals 2, 6, 7, 9 to 12 and 15, in this order.
 pub fn event(area: &mut [u8], writer: &mut Writer, record: &[u8; RECORD]) -> Result<(), u8> {
     if writer.length(u64::from(writer.count) + 1) > MAX_TRACE as u64 {
         return Err(2);
@@ -72,7 +72,7 @@ impl Writer {
         self.length(u64::from(self.count)) - TRAILER as u64
     }
 
-    /// The transactions open after the event of a record. Refusals 6 to 12, in this order.
+    /// The transactions open after the event of a record. Refusals 6, 7 and 9 to 12, in this order.
     fn open_after(&self, record: &[u8; RECORD]) -> Result<u16, u8> {
         let record = trace::decode(record, self.lines)?;
         // So many records are past the longest file: an event gets 2 before.

@@ -2,8 +2,10 @@
 //! one is the same as the one made anew.
 
 use reference::corpus::{papers_folder, Corpus};
-use reference::trace::{open, TRAILER};
-use reference::{Kind, Outcome};
+use reference::direct::Run;
+use reference::no_bytes::{self, Beside};
+use reference::trace::{open, read, TRAILER};
+use reference::{Kind, Outcome, Record};
 use std::path::Path;
 
 fn build() -> Corpus {
@@ -36,17 +38,58 @@ fn covers_every_answer() {
     let both = corpus.entries.iter().filter(|entry| entry.both_ways);
     assert!(both.count() >= 500);
     let outcomes = || corpus.entries.iter().map(|entry| &entry.outcome);
-    for number in [1, 2, 3, 4, 5, 6, 7, 8, 9, 11, 12, 13, 14] {
+    for number in [1, 2, 3, 4, 5, 6, 7, 9, 11, 12, 13, 14] {
         let refused = outcomes().filter_map(Outcome::refusal);
         let count = refused.filter(|refusal| refusal.number == number).count();
         assert!(count >= 3, "refused by {number}: {count}");
     }
+    let mut refused = outcomes().filter_map(Outcome::refusal);
+    assert!(refused.all(|refusal| refusal.number != 8));
     for kind in Kind::ALL {
         let reports = outcomes().filter_map(Outcome::report);
         let findings = reports.flat_map(|report| &report.findings);
         let count = findings.filter(|finding| finding.kind == kind).count();
         assert!(count >= 50, "{kind:?}: {count}");
     }
+}
+
+/// Every kind of event with a range of no bytes is accepted, and refused by 9. Each accepted trace is
+/// judged the same, but for these events and the event numbers, without them.
+#[test]
+fn covers_ranges_of_no_bytes() {
+    let corpus = build();
+    let (mut accepted, mut past) = (no_bytes::Counts::default(), no_bytes::Counts::default());
+    let mut compared = 0;
+    for entry in &corpus.entries {
+        let Ok(body) = open(&entry.case.trace) else {
+            continue;
+        };
+        let records: Vec<_> = body.record_bytes().map(read).collect();
+        match &entry.outcome {
+            Outcome::Accepted(report) => {
+                let records: Vec<Record> = records.into_iter().flatten().collect();
+                assert_eq!(records.len(), report.findings.len());
+                let counts = no_bytes::Counts::of(records.iter().map(|record| record.event));
+                compared += usize::from(counts.sum() > 0);
+                accepted.join(&counts);
+                compare_without(body.lines, &records);
+            }
+            Outcome::Refused(refusal) if refusal.number == 9 => {
+                past.add(records[refusal.record - 1].ok().map(|record| record.event));
+            }
+            Outcome::Refused(_) => {}
+        }
+    }
+    println!("{compared} traces with ranges of no bytes: {accepted}; refused by 9: {past}");
+    assert!(accepted.least() >= 50 && past.least() >= 5);
+}
+
+fn compare_without(lines: u16, records: &[Record]) {
+    let mut beside = Beside::<Run>::fresh(lines);
+    for record in records {
+        beside.give(record).expect("the trace is accepted");
+    }
+    beside.compare();
 }
 
 /// Reads the file back by the words of its format.
@@ -123,11 +166,14 @@ fn summary_adds_up() {
                 .expect("a number")
         })
         .collect();
-    assert_eq!(numbers.len(), 2 + 14 + 9 + 1);
+    // 8 has no line.
+    assert_eq!(numbers.len(), 2 + 13 + 9 + 1);
     assert_eq!(
         numbers[0],
-        numbers[1] + numbers[2..16].iter().sum::<usize>()
+        numbers[1] + numbers[2..15].iter().sum::<usize>()
     );
-    assert_eq!(numbers[11], 0, "refused by 10");
+    assert_eq!(numbers[10], 0, "refused by 10");
+    assert!(summary.contains("\nrefused by 7 ") && summary.contains("\nrefused by 9 "));
+    assert!(summary.contains("\nrefused by 10 0\n") && !summary.contains("refused by 8"));
     assert!(summary.starts_with("traces ") && summary.ends_with("\ndiffer 0\n"));
 }

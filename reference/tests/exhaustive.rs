@@ -3,6 +3,7 @@
 
 use reference::direct::Run;
 use reference::images::History;
+use reference::no_bytes::{self, Beside};
 use reference::{findings_with, judge, judge_by_images, script, trace, Event, Exposure, Finding};
 use reference::{Interval, Kind, Outcome, Range, Record, Way};
 use std::ops::RangeInclusive;
@@ -112,6 +113,64 @@ const EXPOSURES: [Event; 5] = [
     Event::Fence,
 ];
 
+/// Ranges of no bytes in every kind of event, among others: at a line's edge, inside a stored range
+/// and at the window's size.
+const NO_BYTES: [Event; 16] = [
+    Event::Store(r(60, 8)),
+    Event::Store(r(62, 0)),
+    Event::Store(r(128, 0)),
+    Event::WriteBack(r(60, 8)),
+    Event::WriteBack(r(63, 0)),
+    Event::Fence,
+    Event::Begin,
+    Event::Log(r(60, 8)),
+    Event::Log(r(64, 0)),
+    Event::End,
+    Event::Persisted(r(56, 16)),
+    Event::Persisted(r(62, 0)),
+    Event::Ordered(r(60, 4), r(64, 4)),
+    Event::Ordered(r(62, 0), r(60, 8)),
+    Event::Ordered(r(60, 8), r(64, 0)),
+    Event::Ordered(r(64, 0), r(128, 0)),
+];
+
+/// Transactions with logs and stores of no bytes.
+const EMPTY_TRANSACTIONS: [Event; 8] = [
+    Event::Begin,
+    Event::End,
+    Event::Log(r(62, 3)),
+    Event::Log(r(63, 0)),
+    Event::Store(r(62, 4)),
+    Event::Store(r(63, 0)),
+    Event::WriteBack(r(60, 8)),
+    Event::Fence,
+];
+
+/// Stores and write-backs of no bytes beside those of several words.
+const EMPTY_WORDS: [Event; 9] = [
+    Event::Store(r(60, 16)),
+    Event::Store(r(64, 0)),
+    Event::Store(r(64, 16)),
+    Event::WriteBack(r(60, 8)),
+    Event::WriteBack(r(64, 0)),
+    Event::Fence,
+    Event::Ordered(r(60, 20), r(60, 20)),
+    Event::Ordered(r(72, 0), r(60, 20)),
+    Event::Ordered(r(64, 8), r(72, 8)),
+];
+
+/// The events that persist intervals depend on, some of them of no bytes.
+const EMPTY_INTERVALS: [Event; 8] = [
+    Event::Store(r(60, 8)),
+    Event::Store(r(62, 0)),
+    Event::Store(r(64, 0)),
+    Event::Store(r(64, 1)),
+    Event::WriteBack(r(60, 8)),
+    Event::WriteBack(r(63, 0)),
+    Event::WriteBack(r(64, 1)),
+    Event::Fence,
+];
+
 /// How often each kind of finding, each refusal, each kind of interval and each sort of exposure
 /// came up.
 #[derive(Clone, Debug, Default)]
@@ -125,6 +184,8 @@ struct Tally {
     exposures: [usize; 3],
     /// Pairs out of order that one store set on one line.
     torn: usize,
+    /// Events with a range of no bytes in accepted lists.
+    no_bytes: no_bytes::Counts,
 }
 
 impl Tally {
@@ -168,6 +229,7 @@ impl Tally {
         let sums = kinds.chain(refused).chain(intervals).chain(exposures);
         sums.for_each(|(sum, more)| *sum += more);
         self.torn += other.torn;
+        self.no_bytes.join(&other.no_bytes);
     }
 }
 
@@ -229,6 +291,18 @@ fn compare_intervals(records: &[Record], tally: &mut Tally) {
     assert_eq!(exposure, history.exposure(), "{records:?}");
     assert_mean(exposure, sum, count);
     tally.add_exposure(exposure);
+}
+
+/// Compares the list with the one that has none of its events with a range of no bytes: the findings
+/// of the others, and what can be asked after the last event. Refused events are passed over.
+fn compare_without(records: &[Record], tally: &mut Tally) {
+    let mut beside = Beside::<Run>::fresh(LINES);
+    for record in records {
+        if beside.give(record).is_ok() {
+            tally.no_bytes.add([record.event]);
+        }
+    }
+    beside.compare();
 }
 
 /// The exposure is the mean of a sum over so many bytes.
@@ -371,5 +445,80 @@ fn intervals_of_everything_up_to_four_events() {
     let lists = 1 + 16 + 256 + 4_096 + 65_536;
     assert_eq!(tally.traces, lists);
     assert_eq!(tally.intervals.iter().sum::<usize>(), 128 * lists);
+    assert!(tally.intervals.iter().all(|&count| count > 0));
+}
+
+/// The outcomes of both ways, and the lists without the events with a range of no bytes.
+fn compare_no_bytes(records: &[Record], tally: &mut Tally) {
+    tally.add(&compare(records));
+    compare_without(records, tally);
+}
+
+#[test]
+fn no_bytes_up_to_five_events() {
+    let tally = for_all(&[], &NO_BYTES, 0..=5, compare_no_bytes);
+    assert_eq!(tally.traces, 1 + 16 + 256 + 4_096 + 65_536 + 1_048_576);
+    assert_found(&tally, &Kind::ALL);
+    assert!(tally.refused[11] > 0 && tally.refused[13] > 0);
+    assert!(tally.no_bytes.least() > 10_000, "{}", tally.no_bytes);
+}
+
+#[test]
+fn no_bytes_in_transactions() {
+    let front = [Event::Begin];
+    let tally = for_all(&front, &EMPTY_TRANSACTIONS, 6..=6, compare_no_bytes);
+    assert_eq!(tally.traces, 262_144);
+    let kinds = [
+        Kind::Holds,
+        Kind::Lost,
+        Kind::Unlogged,
+        Kind::LoggedTwice,
+        Kind::Empty,
+    ];
+    assert_found(&tally, &kinds);
+}
+
+#[test]
+fn no_bytes_in_torn_stores() {
+    let tally = for_all(&[], &EMPTY_WORDS, 0..=5, compare_no_bytes);
+    assert_eq!(tally.traces, 1 + 9 + 81 + 729 + 6_561 + 59_049);
+    assert_found(&tally, &[Kind::Holds, Kind::OutOfOrder]);
+    assert_eq!(tally.refused.iter().sum::<usize>(), 0);
+    assert!(tally.torn > 1_000, "{}", tally.torn);
+}
+
+/// A list of each length is compared after its last event, so every list after every event.
+#[test]
+fn no_bytes_in_intervals() {
+    let tally = for_all(&[], &EMPTY_INTERVALS, 0..=6, |records, tally| {
+        compare_intervals(records, tally);
+        compare_without(records, tally);
+    });
+    let lists = 1 + 8 + 64 + 512 + 4_096 + 32_768 + 262_144;
+    assert_eq!(tally.traces, lists);
+    assert_eq!(tally.intervals.iter().sum::<usize>(), 128 * lists);
+    assert!(tally.intervals.iter().all(|&count| count > 0));
+    assert!(tally.exposures.iter().all(|&count| count > 100));
+}
+
+/// Behind a store and a fence, for exposures with a remainder.
+#[test]
+fn no_bytes_in_exposures() {
+    let front = [Event::Store(r(61, 5)), Event::Fence];
+    let tally = for_all(&front, &EMPTY_INTERVALS, 0..=5, |records, tally| {
+        compare_intervals(records, tally);
+        compare_without(records, tally);
+    });
+    let lists = 1 + 8 + 64 + 512 + 4_096 + 32_768;
+    assert_eq!(tally.traces, lists);
+    assert!(tally.exposures.iter().all(|&count| count > 100));
+}
+
+/// With assertions and transactions among the events, refused ones too.
+#[test]
+fn no_bytes_of_everything_up_to_four_events() {
+    let tally = for_all(&[], &NO_BYTES, 0..=4, compare_intervals);
+    let lists = 1 + 16 + 256 + 4_096 + 65_536;
+    assert_eq!(tally.traces, lists);
     assert!(tally.intervals.iter().all(|&count| count > 0));
 }

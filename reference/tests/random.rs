@@ -2,21 +2,26 @@
 //!
 //! Most have windows of 1 to 4 lines, ranges of at most 16 bytes, 6 to 30 events and the ends
 //! behind them; some have any window, any range and up to 39 events; and some have stores of up to
-//! 24 bytes with orders between their parts. A trace with more to look at in its images than
-//! `images::SMALL_EFFORT` is passed over; the tests count those compared.
+//! 24 bytes with orders between their parts. Most have ranges of no bytes among the others, and some
+//! have many of them. A trace with more to look at in its images than `images::SMALL_EFFORT` is
+//! passed over; the tests count those compared. Each accepted one is also compared with the trace
+//! that lacks its events with a range of no bytes.
 //!
 //! Persist intervals are compared for every byte of the window after every event, and mean exposures
 //! after every event.
 
 use reference::direct::Run;
 use reference::images::History;
+use reference::no_bytes::{self, Beside};
 use reference::random::{self, Mix, Random, Shape};
-use reference::{images, judge, judge_by_images, script, Interval, Kind, Outcome, Record, Way};
+use reference::{images, judge, judge_by_images, script, trace};
+use reference::{Interval, Kind, Outcome, Record, Way};
 
 /// Compares the two ways on `count` traces, and gives the outcomes of those small enough.
 fn compare(seed: u64, count: usize, make: fn(&mut Random) -> Vec<u8>) -> Vec<Outcome> {
     let mut random = Random::new(seed);
     let mut outcomes = Vec::new();
+    let mut no_bytes = no_bytes::Counts::default();
     for _ in 0..count {
         let trace = make(&mut random);
         let area = if random.chance(1, 50) { 24 } else { 65_536 };
@@ -27,10 +32,32 @@ fn compare(seed: u64, count: usize, make: fn(&mut Random) -> Vec<u8>) -> Vec<Out
         let enumerated = judge_by_images(&trace, area);
         let text = || script::text_of(&trace).unwrap_or_else(|| format!("{trace:?}"));
         assert_eq!(direct, enumerated, "seed {seed}\n{}", text());
+        if direct.report().is_some() {
+            no_bytes.join(&compare_without(&trace));
+        }
         outcomes.push(direct);
     }
-    println!("seed {seed}: {} of {count} compared", outcomes.len());
+    let compared = outcomes.len();
+    println!("seed {seed}: {compared} of {count} compared; no bytes: {no_bytes}");
+    assert!(no_bytes.least() > 0, "seed {seed}: {no_bytes}");
     outcomes
+}
+
+/// Compares an accepted trace with the one that has none of its events with a range of no bytes, and
+/// counts these.
+fn compare_without(trace: &[u8]) -> no_bytes::Counts {
+    let body = trace::open(trace).expect("the trace is accepted");
+    let mut beside = Beside::<Run>::fresh(body.lines);
+    let mut events = Vec::new();
+    for bytes in body.record_bytes() {
+        let record = trace::read(bytes).expect("the trace is accepted");
+        beside.give(&record).expect("the trace is accepted");
+        events.push(record.event);
+    }
+    beside.compare();
+    let counts = no_bytes::Counts::of(events);
+    assert_eq!(counts.sum(), beside.taken_out());
+    counts
 }
 
 fn count_of(outcomes: &[Outcome], kind: Kind) -> usize {
@@ -88,9 +115,10 @@ fn more_valid_traces() {
 fn damaged_traces() {
     let outcomes = compare(3, 30_000, damaged_small);
     assert!(outcomes.len() > 27_000, "{}", outcomes.len());
-    for number in [1, 3, 4, 5, 14, 6, 7, 8, 9, 11, 12, 13] {
+    for number in [1, 3, 4, 5, 14, 6, 7, 9, 11, 12, 13] {
         assert!(refusals(&outcomes, number) > 0, "never refused by {number}");
     }
+    assert_eq!(refusals(&outcomes, 8), 0);
     let accepted = outcomes.iter().filter_map(Outcome::report).count();
     assert!(accepted > 1_000, "{accepted}");
 }
@@ -144,6 +172,8 @@ struct Intervals {
     /// Exposures that are not refused, and those of them with a remainder.
     exposures: usize,
     remainders: usize,
+    /// Events with a range of no bytes.
+    no_bytes: usize,
 }
 
 impl Intervals {
@@ -165,6 +195,8 @@ impl Intervals {
             self.remainders += usize::from(remainder > 0);
         }
         self.lists += 1;
+        let events = records.iter().map(|record| record.event);
+        self.no_bytes += no_bytes::Counts::of(events).sum();
     }
 }
 
@@ -187,6 +219,7 @@ fn compare_intervals(seed: u64, count: usize, make: fn(&mut Random) -> Shape) ->
 fn intervals() {
     let intervals = compare_intervals(5, 4_000, random::small_shape);
     assert!(intervals.lists > 3_600);
+    assert!(intervals.no_bytes > 1_000);
     assert!(intervals.compared > 10_000_000 && intervals.closed > 50_000);
     assert!(intervals.exposures > 10_000 && intervals.remainders > 1_000);
 }
@@ -199,8 +232,10 @@ fn intervals_of_long_lists() {
         mix: STORES,
         longest: random.pick(&[4, 16, 70]),
         ranges: random.below(12),
+        no_bytes: random.pick(&[0, 5, 30]),
     });
     assert_eq!(intervals.lists, 400);
+    assert!(intervals.no_bytes > 1_000);
     assert!(intervals.compared > 5_000_000 && intervals.closed > 500_000);
     assert!(intervals.exposures > 10_000 && intervals.remainders > 10_000);
 }
@@ -213,6 +248,27 @@ fn intervals_of_any_window() {
     });
     assert_eq!(intervals.lists, 500);
     assert!(intervals.compared > 5_000_000 && intervals.closed > 100_000);
+}
+
+/// Many ranges of no bytes, in shapes of every sort.
+#[test]
+fn no_bytes() {
+    let outcomes = compare(9, 10_000, |random| {
+        let shape = match random.below(4) {
+            0 => random::torn_shape(random),
+            1 => random::any_shape(random),
+            _ => random::small_shape(random),
+        };
+        let shape = Shape {
+            no_bytes: random.pick(&[20, 50, 90]),
+            ..shape
+        };
+        random::valid(random, &shape)
+    });
+    assert!(outcomes.len() > 9_500, "{}", outcomes.len());
+    for kind in Kind::ALL {
+        assert!(count_of(&outcomes, kind) > 100, "few {kind:?}");
+    }
 }
 
 /// The same seed gives the same traces.

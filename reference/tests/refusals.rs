@@ -132,18 +132,46 @@ fn lacking_fields() {
 
 #[test]
 fn lengths_of_0() {
-    let (good, empty) = (Range::new(0, 8), Range::new(8, 0));
-    let far = Range::new(60_000, 0);
-    for range in [empty, far] {
-        refused(&second(event(Event::Store(range))), 36, 8, 2);
-        refused(&second(event(Event::WriteBack(range))), 36, 8, 2);
-        refused(&second(event(Event::Log(range))), 36, 8, 2);
-        refused(&second(event(Event::Persisted(range))), 36, 8, 2);
-        refused(&second(event(Event::Ordered(range, good))), 36, 8, 2);
-        refused(&second(event(Event::Ordered(good, range))), 36, 8, 2);
+    for lines in [1u16, 2, 63, 64] {
+        let window = lines * 64;
+        for address in [0, 8, 63, 64, window - 1, window] {
+            no_bytes(lines, Range::new(address, 0), None);
+        }
+        for address in [window + 1, window + 64, 60_000, 65_535] {
+            no_bytes(lines, Range::new(address, 0), Some(9));
+        }
     }
-    let past = Range::new(128, 1);
-    refused(&second(event(Event::Ordered(past, empty))), 36, 8, 2);
+    let (empty, past) = (Range::new(8, 0), Range::new(128, 1));
+    refused(&second(event(Event::Ordered(past, empty))), 36, 9, 2);
+    refused(&second(event(Event::Ordered(empty, past))), 36, 9, 2);
+}
+
+/// Every kind of event with a range of no bytes, behind a fence: accepted, or refused by a number. A
+/// log is refused by 11 if nothing is open.
+fn no_bytes(lines: u16, range: Range, number: Option<u8>) {
+    let good = Range::new(0, 8);
+    for kind in [
+        Event::Store(range),
+        Event::WriteBack(range),
+        Event::Persisted(range),
+        Event::Ordered(range, good),
+        Event::Ordered(good, range),
+        Event::Ordered(range, range),
+    ] {
+        let trace = assemble(lines, &[], &[fence(), event(kind), fence()]);
+        match number {
+            Some(number) => refused(&trace, 36, number, 2),
+            None => accepted(&trace, 36),
+        }
+    }
+    let (begin, end) = (event(Event::Begin), event(Event::End));
+    let log = event(Event::Log(range));
+    refused(&assemble(lines, &[], &[log]), 12, number.unwrap_or(11), 1);
+    let inside = assemble(lines, &[], &[begin, log, end]);
+    match number {
+        Some(number) => refused(&inside, 36, number, 2),
+        None => accepted(&inside, 36),
+    }
 }
 
 #[test]
@@ -222,7 +250,7 @@ fn order() {
     refused(
         &second(raw_record(Event::LOG, 0, Range::new(999, 0), NOTHING, 0)),
         36,
-        8,
+        9,
         2,
     );
     refused(

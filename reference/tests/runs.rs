@@ -1,12 +1,12 @@
 //! The runs of the request, both ways, and the byte layouts.
 
 use reference::check::check;
-use reference::corpus::torn;
+use reference::corpus::{no_bytes, torn};
 use reference::direct::Run;
 use reference::images::History;
 use reference::script::Script;
 use reference::{area_after, findings_bytes, judge, judge_by_images, listing};
-use reference::{Event, Kind, Outcome, Range, Record, Way};
+use reference::{Event, Kind, Outcome, Range, Record, Report, Way};
 
 /// Checks a script whose every event has its `expect`, or which has a `refused` line.
 fn holds(events: &str) {
@@ -125,17 +125,15 @@ fn torn_stores() {
     assert_eq!(by_hand, runs[..22]);
     let (mut asserted, mut out_of_order) = (Vec::new(), 0);
     for run in runs {
-        let text = format!("lines {}\n{}", run.lines, run.script.replace(';', "\n"));
-        let script = Script::parse(&text).expect("the script is good");
+        let script = run.read();
         let checked = check(&script);
-        assert_eq!(checked.differences, Vec::<String>::new(), "{text}");
+        assert_eq!(checked.differences, Vec::<String>::new(), "{run:?}");
         // Every two lines of this one would have 257 × 257 images.
         let too_many = run.name == "window-of-64-itself";
-        assert_eq!(checked.both_ways, !too_many, "{text}");
+        assert_eq!(checked.both_ways, !too_many, "{run:?}");
         let report = checked.outcome.report().expect("the run is accepted");
-        for (event, finding) in script.events.iter().zip(&report.findings) {
-            let none = finding.kind == Kind::None;
-            assert_eq!(event.expect.is_none(), none, "{text}");
+        assert_others_get_none(&script, report);
+        for finding in &report.findings {
             out_of_order += usize::from(finding.kind == Kind::OutOfOrder);
         }
         asserted.push(checked.compared);
@@ -145,6 +143,38 @@ fn torn_stores() {
     println!(
         "{all} answers of torn stores, {by_hand} of them by hand, {out_of_order} out of order"
     );
+}
+
+/// Every event but those with an `expect` gets none.
+fn assert_others_get_none(script: &Script, report: &Report) {
+    for (event, finding) in script.events.iter().zip(&report.findings) {
+        let none = finding.kind == Kind::None;
+        assert_eq!(event.expect.is_none(), none, "line {}", event.at);
+    }
+}
+
+/// The runs of the corpus with ranges of no bytes, with the answers that stand beside them.
+#[test]
+fn ranges_of_no_bytes() {
+    let (by_hand, runs) = (no_bytes::by_hand(), no_bytes::runs());
+    assert_eq!((by_hand.len(), runs.len()), (61, 61 + 2 * 13));
+    assert_eq!(by_hand, runs[..61]);
+    let (mut asserted, mut nones) = (Vec::new(), 0);
+    for run in runs {
+        let script = run.read();
+        let checked = check(&script);
+        assert_eq!(checked.differences, Vec::<String>::new(), "{run:?}");
+        assert!(checked.both_ways, "{run:?}");
+        if let Some(report) = checked.outcome.report() {
+            assert_others_get_none(&script, report);
+            let none = report.findings.iter().filter(|f| f.kind == Kind::None);
+            nones += none.count();
+        }
+        asserted.push(checked.compared);
+    }
+    let all: usize = asserted.iter().sum();
+    let by_hand: usize = asserted[..by_hand.len()].iter().sum();
+    println!("{all} answers beside no bytes, {by_hand} of them by hand; {nones} events get none");
 }
 
 #[test]

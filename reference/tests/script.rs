@@ -180,6 +180,7 @@ fn mistakes_of_words() {
     );
     mistake("lines 2\nfence\nexpect gone", 3, "`gone`");
     mistake("lines 2\nrefused 0 at 0", 2, "number 0");
+    mistake("lines 2\nrefused 8 at 1", 2, "number 8");
     mistake("lines 2\nrefused 15 at 0", 2, "number 15");
 }
 

@@ -2,14 +2,17 @@
 //! its answers, and random events.
 
 use reference::calls::{self, Answer, Call, Calls, Counts, Sort};
-use reference::corpus::torn;
+use reference::corpus::{self, torn};
 use reference::direct::Run;
 use reference::images::{self, History};
 use reference::random::{self, Random, Shape};
-use reference::script::Script;
+use reference::script::{Expect, Script};
 use reference::writer::Writer;
-use reference::{singly, Event, Exposure, Finding, Interval, Kind, Range, Record, Refusal};
-use reference::{Totals, Way};
+use reference::{
+    no_bytes, singly, Event, Exposure, Finding, Interval, Kind, Range, Record, Refusal,
+};
+use reference::{trace, Totals, Way};
+use std::collections::BTreeMap;
 use std::path::Path;
 
 /// The answers to the runs at the limits, under a line `run: NAME` for each run.
@@ -17,6 +20,9 @@ const LIMITS: &str = include_str!("data/limits.txt");
 
 /// The answers to the runs with exposures, worked out by hand, in the same form.
 const EXPOSURES: &str = include_str!("data/exposure.txt");
+
+/// The answers to the runs with ranges of no bytes, worked out by hand, in the same form.
+const NO_BYTES: &str = include_str!("data/no_bytes.txt");
 
 /// The site of the events given here.
 const SITE: u16 = 7;
@@ -284,22 +290,38 @@ ask 64: refused 9
 persisted 0/64: finding 1 lost 0 kept 0 moment 0 store 0
 persisted 0/65: refused 9
 close: events 1 fences 0 findings 1
-run: lengths before ranges, ranges before the state
+run: ranges before the state
 fresh 1: taken
-log 64/0: refused 8
+log 64/0: refused 11
+log 65/0: refused 9
 log 64/1: refused 9
 log 63/1: refused 11
-ordered 64/1 before 0/0: refused 8
-ordered 0/0 before 64/1: refused 8
+ordered 64/1 before 0/0: refused 9
+ordered 0/0 before 64/1: refused 9
+ordered 65/0 before 64/0: refused 9
+ordered 64/0 before 65/0: refused 9
 ordered 64/1 before 0/1: refused 9
 ordered 0/1 before 64/1: refused 9
 ordered 0/1 before 1/65535: refused 9
 write-back 65535/65535: refused 9
+write-back 65535/0: refused 9
+ask 64: refused 9
 ask 65535: refused 9
 ask 65536: refused 9
 close: events 0 fences 0 findings 0
+run: no bytes are no store, no write-back and no log
+fresh 1: taken
+begin: none
+store 64/0: none
+write-back 64/0: none
+log 64/0: none
+persisted 64/0: finding 1 lost 0 kept 0 moment 0 store 0
+ordered 64/0 before 64/0: finding 1 lost 0 kept 0 moment 0 store 0
+end: finding 8 lost 0 kept 0 moment 0 store 0
+ask 63: none
+close: events 7 fences 0 findings 3
 ";
-    assert_eq!(compare(text), 29);
+    assert_eq!(compare(text), 44);
 }
 
 #[test]
@@ -381,6 +403,7 @@ fn give_all<W: Way>(lines: u16, events: &[Event]) -> (Answers, Vec<Result<Findin
 fn random_events() {
     let mut random = Random::new(9);
     let (mut lists, mut refused) = (0, [0; 15]);
+    let mut no_bytes = no_bytes::Counts::default();
     for _ in 0..2_010 {
         let shape = random::small_shape(&mut random);
         let events = any_events(&mut random, &shape);
@@ -388,6 +411,7 @@ fn random_events() {
         let (accepted, findings) = accepted(&events, &given);
         let alone = give_all::<Run>(shape.lines, &accepted);
         assert_eq!(alone, (last.clone(), findings), "{events:?}");
+        no_bytes.add(accepted.iter().copied());
         for refusal in given.iter().filter_map(|result| result.err()) {
             refused[usize::from(refusal.number)] += 1;
         }
@@ -399,7 +423,10 @@ fn random_events() {
     }
     println!("{lists} lists compared both ways, refused {refused:?}");
     assert!(lists >= 2_000, "{lists}");
-    for number in [8, 9, 11, 12] {
+    println!("no bytes, accepted: {no_bytes}");
+    assert!(no_bytes.least() > 100, "{no_bytes}");
+    assert_eq!(refused[8], 0);
+    for number in [9, 11, 12] {
         assert!(
             refused[number] > 50,
             "refused by {number}: {}",
@@ -605,9 +632,10 @@ fn calls_cover_every_answer() {
     some("fresh", Sort::Refused(4), 10);
     some("ask", Sort::Refused(9), 10);
     some("close", Sort::Refused(13), 10);
-    for number in 8..=12 {
+    for number in 9..=12 {
         some("event", Sort::Refused(number), 10);
     }
+    assert_eq!(counts.count("event", Sort::Refused(8)), 0);
     for kind in Kind::ALL {
         some("event", Sort::Finding(kind.number()), 30);
     }
@@ -634,11 +662,12 @@ fn calls_of_the_writer_cover_every_answer() {
         some("start", Sort::Refused(number), 5);
     }
     some("write", Sort::Taken, 1_000);
-    for number in [2, 6, 7, 8, 9, 11, 12, 15] {
+    for number in [2, 6, 7, 9, 11, 12, 15] {
         some("write", Sort::Refused(number), 10);
     }
-    // 2 comes before 10.
+    // 2 comes before 10, and 8 is no longer given.
     assert_eq!(counts.count("write", Sort::Refused(10)), 0);
+    assert_eq!(counts.count("write", Sort::Refused(8)), 0);
     some("finish", Sort::Length, 200);
     for number in [13, 15] {
         some("finish", Sort::Refused(number), 50);
@@ -655,10 +684,10 @@ fn calls_stay_in_their_bounds() {
     let made = build();
     let of_writer = made.calls().filter(|call| call.is_of_writer()).count();
     let on_runs = made.calls().count() - of_writer;
-    assert!((5_000..=13_000).contains(&on_runs), "{on_runs}");
+    assert!((5_000..=14_400).contains(&on_runs), "{on_runs}");
     assert!((2_000..=4_000).contains(&of_writer), "{of_writer}");
-    assert!(made.to_bytes().len() <= 195_000);
-    assert!(made.text().len() <= 500_000);
+    assert!(made.to_bytes().len() <= 210_000);
+    assert!(made.text().len() <= 550_000);
     for entry in &made.entries {
         let (first, others) = entry.case.calls.split_first().expect("a run has calls");
         if entry.case.is_of_writer() {
@@ -722,7 +751,11 @@ fn group_lines<W: Way>(made: &Calls, group: &str) -> Vec<String> {
 #[test]
 fn runs_written_by_hand() {
     let made = build();
-    for (group, text, count) in [("limits", LIMITS, 100), ("intervals", INTERVALS, 85)] {
+    for (group, text, count) in [
+        ("limits", LIMITS, 102),
+        ("intervals", INTERVALS, 85),
+        ("no bytes", NO_BYTES, 253),
+    ] {
         let expected = answers_of(text);
         assert_eq!(expected.len(), count);
         assert_eq!(group_lines::<Run>(&made, group), expected);
@@ -822,20 +855,120 @@ fn torn_stores() {
     let runs = torn::runs();
     assert_eq!(torn.clone().count(), runs.len());
     for (entry, run) in torn.zip(runs) {
-        let text = format!("lines {}\n{}", run.lines, run.script.replace(';', "\n"));
-        let script = Script::parse(&text).expect("the script is good");
+        let script = run.read();
         let (fresh, events) = entry.case.calls.split_first().expect("a run has calls");
         assert_eq!(*fresh, Call::Fresh(run.lines));
         assert_eq!(events.len(), script.events.len());
         for (event, answer) in script.events.iter().zip(&entry.answers[1..]) {
             let Some(Answer::Finding(finding)) = answer else {
-                panic!("{answer:?}: {text}");
+                panic!("{answer:?}: {run:?}");
             };
             let none = finding.kind == Kind::None;
             let expected = event.expect.map_or(none, |expect| expect.matches(finding));
-            assert!(expected, "{finding:?}: {text}");
+            assert!(expected, "{finding:?}: {run:?}");
         }
     }
+}
+
+/// The runs of the corpus with ranges of no bytes, with the answers that stand beside them.
+#[test]
+fn no_bytes_of_the_corpus() {
+    let made = build();
+    let group = "no bytes of the corpus";
+    let entries = made
+        .entries
+        .iter()
+        .filter(|entry| entry.case.group == group);
+    let runs = corpus::no_bytes::given_singly();
+    assert_eq!(entries.clone().count(), runs.len());
+    for (entry, run) in entries.zip(runs) {
+        assert!(entry.both_ways, "{}", run.name);
+        let expected = expected_lines(&run.read());
+        let fresh = format!("fresh {}: taken", run.lines);
+        let lines: Vec<String> = entry.text().lines().map(String::from).collect();
+        assert_eq!(lines, [&[fresh][..], &expected].concat(), "{}", run.name);
+    }
+}
+
+/// The lines of a script's events given singly, and of a closing, by what it expects of them. The
+/// record that refuses the trace is the last one.
+fn expected_lines(script: &Script) -> Vec<String> {
+    let none = Expect {
+        kind: Kind::None,
+        fields: None,
+    };
+    let (mut lines, mut fences, mut found) = (Vec::new(), 0, 0);
+    let (last, mut taken) = (script.events.len(), script.events.len());
+    for (scripted, number) in script.events.iter().zip(1..) {
+        let event = trace::read(&scripted.record).expect("a good record").event;
+        let expect = scripted.expect.unwrap_or(none);
+        let [lost, kept, moment, store] = expect.fields.unwrap_or([0; 4]);
+        let answer = match (script.refused, expect.kind) {
+            (Some(refusal), _) if refusal.record == number => {
+                assert_eq!(number, last);
+                taken -= 1;
+                format!("refused {}", refusal.number)
+            }
+            (_, Kind::None) => "none".to_string(),
+            (_, kind) => {
+                found += 1;
+                let kind = kind.number();
+                format!("finding {kind} lost {lost} kept {kept} moment {moment} store {store}")
+            }
+        };
+        fences += usize::from(event == Event::Fence);
+        lines.push(format!("{event}: {answer}"));
+    }
+    lines.push(match script.refused {
+        Some(refusal) if refusal.number == 13 => "close: refused 13".to_string(),
+        _ => format!("close: events {taken} fences {fences} findings {found}"),
+    });
+    lines
+}
+
+/// Every kind of event with a range of no bytes is accepted, and refused by 9 and 10; the writer
+/// takes it, and refuses it by 2, 9 and 15.
+#[test]
+fn calls_cover_ranges_of_no_bytes() {
+    let made = build();
+    let mut given: BTreeMap<u8, no_bytes::Counts> = BTreeMap::new();
+    let mut written: BTreeMap<u8, no_bytes::Counts> = BTreeMap::new();
+    for entry in &made.entries {
+        for (call, answer) in entry.case.calls.iter().zip(&entry.answers) {
+            let (counts, event) = match call {
+                Call::Give(record) => (&mut given, Some(record.event)),
+                Call::Write(bytes) => (&mut written, trace::read(bytes).ok().map(|r| r.event)),
+                _ => continue,
+            };
+            let number = match answer {
+                Some(Answer::Refused(number) | Answer::Writer(Err(number), _)) => *number,
+                _ => 0,
+            };
+            counts.entry(number).or_default().add(event);
+        }
+    }
+    for (name, counts) in [("given", &given), ("written", &written)] {
+        for (number, counts) in counts.iter().filter(|(_, counts)| counts.sum() > 0) {
+            let words = match number {
+                0 => "accepted".to_string(),
+                number => format!("refused by {number}"),
+            };
+            println!("no bytes {name}, {words}: {counts}");
+        }
+    }
+    let least = |counts: &BTreeMap<u8, no_bytes::Counts>, number: u8| {
+        counts.get(&number).map_or(0, no_bytes::Counts::least)
+    };
+    assert!(least(&given, 0) >= 30 && least(&given, 9) >= 3);
+    assert!(least(&written, 0) >= 3 && least(&written, 9) >= 1);
+    let some = |counts: &BTreeMap<u8, no_bytes::Counts>, numbers: &[u8]| {
+        for number in numbers {
+            let sum = counts.get(number).map_or(0, no_bytes::Counts::sum);
+            assert!(sum > 0, "no bytes, answer {number}");
+        }
+    };
+    some(&given, &[10, 11]);
+    some(&written, &[2, 11, 15]);
 }
 
 /// The lines of events with a finding or a refusal.

@@ -115,16 +115,18 @@ fn refused(writer: Writer, length: usize, record: [u8; RECORD], number: u8) {
 fn refused_events() {
     let mut unknown = [7; RECORD];
     unknown[0] = 9;
-    let zero_set = raw_record(5, 1, Range::new(128, 0), Range::new(0, 0), 0);
-    let lacking = raw_record(5, 0, Range::new(128, 0), Range::new(1, 0), 0);
-    let empty = raw_record(5, 0, Range::new(128, 0), Range::new(0, 0), 0);
+    let zero_set = raw_record(5, 1, Range::new(129, 0), Range::new(0, 0), 0);
+    let lacking = raw_record(5, 0, Range::new(129, 0), Range::new(1, 0), 0);
+    let past_empty = raw_record(5, 0, Range::new(129, 0), Range::new(0, 0), 0);
     let past = raw_record(5, 0, Range::new(127, 2), Range::new(0, 0), 0);
+    let empty = raw_record(5, 0, Range::new(128, 0), Range::new(0, 0), 0);
     let broken = [
         (unknown, 6),
         (zero_set, 7),
         (lacking, 7),
-        (empty, 8),
+        (past_empty, 9),
         (past, 9),
+        (empty, 11),
         (LOG, 11),
         (END, 11),
     ];
@@ -187,7 +189,7 @@ fn calls_written_by_hand() {
         compared += expected.len();
     }
     println!("{compared} answers written by hand");
-    assert_eq!(compared, 465);
+    assert_eq!(compared, 526);
 }
 
 // Files that other code makes too.
@@ -240,7 +242,16 @@ fn the_longest_file() {
 /// gets the number that the judge gives it at that place, or is taken.
 #[test]
 fn events_get_the_number_of_the_judge() {
-    let edges = [(0, 0), (0, 1), (128, 0), (127, 1), (127, 2), (65_535, 1)];
+    let edges = [
+        (0, 0),
+        (0, 1),
+        (128, 0),
+        (129, 0),
+        (127, 1),
+        (127, 2),
+        (65_535, 0),
+        (65_535, 1),
+    ];
     let ranges = edges.map(|(address, length)| Range::new(address, length));
     let mut counts = [0; 13];
     for open in 0..=8 {
@@ -259,9 +270,10 @@ fn events_get_the_number_of_the_judge() {
         }
     }
     println!("taken, and refused by 1 to 12: {counts:?}");
-    for number in [0, 6, 7, 8, 9, 11, 12] {
+    for number in [0, 6, 7, 9, 11, 12] {
         assert!(counts[number] > 0, "{number}");
     }
+    assert_eq!(counts[8], 0);
 }
 
 /// The zero byte and two ranges, in every combination.
@@ -524,7 +536,8 @@ fn random_calls() {
         }
     };
     some("start", &[0, 2, 4, 15]);
-    some("event", &[0, 2, 6, 7, 8, 9, 11, 12, 15]);
+    some("event", &[0, 2, 6, 7, 9, 11, 12, 15]);
+    assert_eq!(counts.get(&("event", 8)), None);
     some("close", &[0, 13, 15]);
 }
 

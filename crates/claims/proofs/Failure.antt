@@ -11,7 +11,7 @@ use Rattle.event.specs.declared.Answer.{Answer}
 use Rattle.event.specs.declared.Answer.the-variants.{Found}
 use Rattle.event.specs.Numbers.{fieldsOf}
 use Rattle.event.specs.Reply.{Reply, answerReply}
-use Rattle.history.specs.History.{History, stores, storesByte}
+use Rattle.history.specs.History.{History, storesByte, storesSome}
 use Rattle.history.specs.Transaction.{depth, Since}
 use Rattle.history.specs.Assertion.{Persists, Orders}
 use Rattle.history.specs.Claim.{Ended}
@@ -55,7 +55,7 @@ else-out-of-order e (Orders.outOfOrder {kept = kept} {lost = lost} k l s p) =
     inr (record { kept = kept; lost = lost; named = ap answerReply e; lowestKept = k; lowestLost = l; shown = s; keeps = p })
 
 -- and an outermost end with a store since its begin is lost
-pub else-end-lost : {answer : Answer} {f : Finding} {h now : History} {n : ℕ} → answer ≡ Found f → Ended h now n f → depth h ≡ 1 → Since h stores →
+pub else-end-lost : {answer : Answer} {f : Finding} {h now : History} {n : ℕ} → answer ≡ Found f → Ended h now n f → depth h ≡ 1 → Since h storesSome →
     (answerReply answer ≡ holds) ⊎ LostAt now n (λ b. Since h (storesByte b)) (answerReply answer)
 else-end-lost e (Ended.inner d) outermost some = absurd (d outermost)
 else-end-lost e (Ended.empty d none) outermost some = absurd (none some)

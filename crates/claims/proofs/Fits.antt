@@ -221,7 +221,7 @@ taken-finding lines h r {f} e = go (firstBroken limits) (checked limits) e
     limits = limitsBy (ofHistory lines h) (r .event)
 
     inside : NoneBroken limits → anyRange (isPast lines) (rangesOf (r .event)) ≡ false
-    inside (NoneBroken.cons a (NoneBroken.cons b c)) = b
+    inside (NoneBroken.cons a b) = a
 
     go : (c : Check) → Checked limits c → answerFor c (findingBy (ofHistory lines h) (r .event)) ≡ Found f →
         (f ≡ findingBy (ofHistory lines h) (r .event)) × (anyRange (isPast lines) (rangesOf (r .event)) ≡ false)

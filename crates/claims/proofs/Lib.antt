@@ -20,4 +20,5 @@ pub mod Paged  -- request 3 holds
 pub mod TracePages  -- the findings of an accepted trace, laid out
 pub mod Exposed  -- the mean exposure of a run
 pub mod TraceExposed  -- the mean exposure of a trace; request 4 holds
+pub mod NoBytes  -- request 5 holds
 pub mod Demands  -- the demands hold

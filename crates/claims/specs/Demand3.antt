@@ -11,7 +11,7 @@ use Rattle.event.specs.declared.Event.the-variants.{End, Persisted, Ordered}
 use Rattle.event.specs.declared.Record.{Record}
 use Rattle.event.specs.Reply.{Reply, answerReply}
 use Rattle.window.specs.Window.{covers}
-use Rattle.history.specs.History.{stores, storesByte}
+use Rattle.history.specs.History.{storesByte, storesSome}
 use Rattle.history.specs.Interval.{epochAt}
 use Rattle.history.specs.Assertion.{BrokenByte, BrokenPair}
 use Rattle.history.specs.Transaction.{depth, Since}
@@ -53,15 +53,15 @@ pub record Demand3 : Type 0 where
       let answer = givenReply (giveOf (runFrom asked given) r) in
       Accepted (windowOf asked) h r → r .event ≡ Ordered a b →
       (answer ≡ holds) ⊎ OutOfOrderAt (r ∷ h) (suc (length h)) a b answer
-  -- an accepted outermost end with a store since its begin, exactly when no byte stored since its begin is broken
+  -- an accepted outermost end with a store of some byte since its begin, exactly when no byte stored since its begin is broken
   pub ends : (asked : ℕ) (given : List Record) (r : Record) → let h = takenFrom asked given in
-      Accepted (windowOf asked) h r → r .event ≡ End → depth h ≡ 1 → Since h stores →
+      Accepted (windowOf asked) h r → r .event ≡ End → depth h ≡ 1 → Since h storesSome →
       (givenReply (giveOf (runFrom asked given) r) ≡ holds) ↔
       ((b : ℕ) → BrokenByte (r ∷ h) (suc (length h)) (λ b. Since h (storesByte b)) b → ⊥)
   -- otherwise it is lost
   pub endsLost : (asked : ℕ) (given : List Record) (r : Record) → let h = takenFrom asked given in
       let answer = givenReply (giveOf (runFrom asked given) r) in
-      Accepted (windowOf asked) h r → r .event ≡ End → depth h ≡ 1 → Since h stores →
+      Accepted (windowOf asked) h r → r .event ≡ End → depth h ≡ 1 → Since h storesSome →
       (answer ≡ holds) ⊎ LostAt (r ∷ h) (suc (length h)) (λ b. Since h (storesByte b)) answer
   -- the totals at closing: the accepted events, the fences among them, and the findings other than none
   pub totals : (asked : ℕ) (given : List Record) → let h = takenFrom asked given in depth h ≡ 0 →

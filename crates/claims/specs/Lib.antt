@@ -1,6 +1,6 @@
 -- What is promised: the one place to read it. Each demand is a record of statements, over every list of given events, and so is each
--- request that adds a call; proofs/Demands.antt has a value of each demand, proofs/Written.antt of request 1,
--- proofs/TracePages.antt of request 3 and proofs/TraceExposed.antt of request 4.
+-- request that adds a call, and request 5; proofs/Demands.antt has a value of each demand, proofs/Written.antt of request 1,
+-- proofs/TracePages.antt of request 3, proofs/TraceExposed.antt of request 4 and proofs/NoBytes.antt of request 5.
 pub mod After  -- the run, the accepted events and the answers after events given one after another
 pub mod Calls  -- calls one after another, bytes asked, closings and mean exposures between the events
 pub mod Traces  -- the first record of a trace that is refused; the findings area of an accepted trace
@@ -13,4 +13,5 @@ pub mod Demand1  -- refusals: by the first number that applies, by none otherwis
 pub mod Paper  -- the rules of paper 000, section 4.4
 pub mod Demand2  -- intervals, transaction findings and warnings
 pub mod Failure  -- the answers "holds", "lost" and "out-of-order"
+pub mod EmptyRanges  -- request 5: ranges of no bytes
 pub mod Demand3  -- "holds" exactly when no allowed crash image breaks the assertion; a failure shows one

@@ -12,7 +12,7 @@ use Rattle.event.specs.declared.Finding.{Finding}
 use Rattle.event.specs.declared.Answer.the-variants.{Found}
 use Rattle.event.specs.Numbers.{isNone}
 use Rattle.window.specs.Window.{mostLines, windowBytes, lineOf}
-use Rattle.history.specs.History.{History, is, stores, fences, storesLine, writesBackLine, logsByte}
+use Rattle.history.specs.History.{History, is, fences, storesSome, storesLine, writesBackLine, logsByte}
 use Rattle.history.specs.Interval.{epochAt, lastStore, intervalOf}
 use Rattle.history.specs.Transaction.{depth, depthAfter, outermost}
 use Rattle.history.specs.View.{View, ofHistory}
@@ -84,7 +84,7 @@ module _ (lines : ℕ) (m : lines ≤ mostLines) (h : History) (run : Run) (k : 
           epoch = rw (epoch-next r h, next-epoch, t .epoch);
           nesting = ap (depthAfter (r .event)) (t .nesting);
           began = rw (t .nesting, t .events, t .began);
-          latestStore = cc (last-next stores r h);
+          latestStore = cc (last-next storesSome r h);
           latestFence = cc (last-next fences r h);
           stored = λ b. cc (store-next r h b, entries .stored b, t .stored b);
           logged = λ b. cc (last-next (logsByte b) r h, entries .logged b, t .logged b);

@@ -4,7 +4,7 @@ use Prim.Native.Nat.{ℕ}
 use lib.ListN.{length}
 use Rattle.window.specs.Window.{lineOf}
 use Rattle.history.specs.Count.{last, ifSome}
-use Rattle.history.specs.History.{History, is, stores, fences, storesLine, writesBackLine, logsByte}
+use Rattle.history.specs.History.{History, is, fences, storesSome, storesLine, writesBackLine, logsByte}
 use Rattle.history.specs.Interval.{epochAt, lastStore, fenceAfter}
 use Rattle.history.specs.Transaction.{depth, outermost}
 use Rattle.tables.specs.declared.Run.{Run}
@@ -20,7 +20,7 @@ pub record Tracks (lines : ℕ) (h : History) (run : Run) : Type 0 where
   pub epoch : run .counts .fences ≡ epochAt h (length h)
   pub nesting : run .counts .depth ≡ depth h
   pub began : run .counts .begin ≡ outermost h
-  pub latestStore : run .counts .store ≡ last (is stores h) (length h)
+  pub latestStore : run .counts .store ≡ last (is storesSome h) (length h)
   pub latestFence : run .counts .fence ≡ last (is fences h) (length h)
   pub stored : (b : ℕ) → entry (run .stored) b ≡ lastStore h b
   pub logged : (b : ℕ) → entry (run .logged) b ≡ last (is (logsByte b) h) (length h)

@@ -8,7 +8,7 @@ use Rattle.event.specs.declared.Finding.{Finding}
 use Rattle.event.specs.declared.Finding.the-variants.{None, Holds, Lost, OutOfOrder, Unlogged, Clean, WrittenTwice, LoggedTwice, Empty}
 use Rattle.event.specs.declared.Fields.{Fields}
 use Rattle.event.specs.declared.Refusal.{Refusal}
-use Rattle.event.specs.declared.Refusal.the-variants.{TraceTooShort, TraceTooLong, MarkDiffers, BadLines, LengthDiffers, UnknownKind, FieldSet, EmptyRange, PastWindow, EventsExhausted, NoTransaction, TooDeep, TransactionOpen, AreaTooShort, FileAreaTooShort, PageAreaTooShort, NoByteClosed}
+use Rattle.event.specs.declared.Refusal.the-variants.{TraceTooShort, TraceTooLong, MarkDiffers, BadLines, LengthDiffers, UnknownKind, FieldSet, PastWindow, EventsExhausted, NoTransaction, TooDeep, TransactionOpen, AreaTooShort, FileAreaTooShort, PageAreaTooShort, NoByteClosed}
 
 abbrev pub kindOf : Event → ℕ
 kindOf (Store a) = 1
@@ -48,7 +48,6 @@ numberOf BadLines = 4
 numberOf LengthDiffers = 5
 numberOf UnknownKind = 6
 numberOf FieldSet = 7
-numberOf EmptyRange = 8
 numberOf PastWindow = 9
 numberOf EventsExhausted = 10
 numberOf NoTransaction = 11

@@ -64,7 +64,7 @@ pub struct Fields {
     pub store: u16,
 }
 
-// The seventeen reasons for a refusal, in the order of their numbers.
+// The sixteen reasons for a refusal, in the order of their numbers; none has the number 8.
 pub enum Refusal {
     TraceTooShort,
     TraceTooLong,
@@ -73,7 +73,6 @@ pub enum Refusal {
     LengthDiffers,
     UnknownKind,
     FieldSet,
-    EmptyRange,
     PastWindow,
     EventsExhausted,
     NoTransaction,

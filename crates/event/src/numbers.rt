@@ -75,7 +75,7 @@ pub fn fields(f: Finding) -> Fields
     }
 }
 
-// A refusal's number, 1 to 17.
+// A refusal's number, 1 to 17 without 8.
 pub fn number(r: Refusal) -> u8
     ensures { λ n. ⌜ n ≡ numberOf r ⌝ }
 {
@@ -87,7 +87,6 @@ pub fn number(r: Refusal) -> u8
         Refusal::LengthDiffers => 5,
         Refusal::UnknownKind => 6,
         Refusal::FieldSet => 7,
-        Refusal::EmptyRange => 8,
         Refusal::PastWindow => 9,
         Refusal::EventsExhausted => 10,
         Refusal::NoTransaction => 11,

@@ -4,6 +4,7 @@ use Prim.Native.Nat.{ℕ}
 use Rattle.event.specs.declared.Event.{Event}
 use Rattle.event.specs.declared.Record.{Record}
 use Rattle.event.specs.declared.Finding.{Finding}
+use Rattle.event.specs.declared.Finding.the-variants.{None}
 use Rattle.event.specs.declared.Check.{Check}
 use Rattle.event.specs.declared.Check.the-variants.{Passed, Refused as Breaks}
 use Rattle.event.specs.declared.Answer.the-variants.{Refused, Found}
@@ -14,13 +15,18 @@ use Rattle.tables.specs.declared.Run.{Run}
 use Rattle.events.specs.declared.Given.{Given}
 use Rattle.events.specs.declared.Stepped.{Stepped}
 use Rattle.tables.specs.View.{runOf, ofRun}
-use Rattle.events.specs.Next.{countsAfter, tablesAfter}
+use Rattle.events.specs.Next.{countedWith, countsAfter, tablesAfter}
 
 -- the run after an accepted event that got this finding
 abbrev pub nextOf : Run → Event → Finding → Run
 nextOf run e f =
     let next = tablesAfter run e in
     runOf (countsAfter (run .counts) e f) (next .stored) (next .logged) (next .opened) (next .closed) (next .dirtied) (next .backed)
+
+-- the run with one event more, which got no finding, and nothing else changed
+abbrev pub oneEventMore : Run → Run
+oneEventMore run =
+    runOf (countedWith (run .counts) None) (run .stored) (run .logged) (run .opened) (run .closed) (run .dirtied) (run .backed)
 
 -- the answer and the numbers of an accepted event that got this finding
 abbrev pub steppedFor : Counts → Event → Finding → Stepped

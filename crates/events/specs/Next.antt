@@ -8,7 +8,7 @@ use Rattle.event.specs.declared.Event.the-variants.{Store, WriteBack, Fence, Be
 use Rattle.event.specs.declared.Finding.{Finding}
 use Rattle.event.specs.Numbers.{isNone}
 use Rattle.window.specs.Window.{windowBytes, lineOf}
-use Rattle.history.specs.History.{stores, fences, begins}
+use Rattle.history.specs.History.{fences, begins, storesSome}
 use Rattle.history.specs.Transaction.{depthAfter}
 use Rattle.history.specs.Found.{atRisk}
 use Rattle.tables.specs.declared.Counts.{Counts}
@@ -49,7 +49,7 @@ countsAfter c e f =
       findings = next .findings;
       depth = depthAfter e (c .depth);
       begin = cond (begins e && eqb (c .depth) 0) (next .events) (c .begin);
-      store = cond (stores e) (next .events) (c .store);
+      store = cond (storesSome e) (next .events) (c .store);
       fence = cond (fences e) (next .events) (c .fence);
     }
 

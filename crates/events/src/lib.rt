@@ -93,7 +93,7 @@ fn store(
     Stepped {
         answer: Answer::Found(finding),
         counts: Counts {
-            store: next.events,
+            store: tables::store_after(a, counts.store, next.events),
             ..next
         },
     }
@@ -268,7 +268,7 @@ fn accept(
     }
 }
 
-// Refused by the first of 8 to 12 that applies, with numbers and tables as they were; or the finding, and the numbers and tables
+// Refused by the first of 9 to 12 that applies, with numbers and tables as they were; or the finding, and the numbers and tables
 // after the event.
 pub fn step(
     counts: Counts,

@@ -19,7 +19,7 @@ use Rattle.window.specs.Window.{windowBytes, lineOf, lineCount, covers}
 use Rattle.event.proofs.Bools.{contradiction, and-left, and-right, both}
 use Rattle.window.proofs.Meaning.{covered, covering}
 use Rattle.history.specs.Count.{last}
-use Rattle.history.specs.History.{History, is, stores, storesByte}
+use Rattle.history.specs.History.{History, is, storesByte, storesSome}
 use Rattle.history.specs.Interval.{lastStore}
 use Rattle.history.specs.Transaction.{depth, outermost, Since}
 use Rattle.history.specs.View.{ofHistory}
@@ -110,14 +110,14 @@ module _ (lines : ℕ) (h : History) (r : Record) (q : NoEffect (r .event)) wher
       }
 
   ended-meets : Inside lines h → Ended h now n (cond (eqb (depth h) 1) (outermostEnd (ofHistory lines h)) None)
-  ended-meets inside = go (eqb (depth h) 1) refl (ltb (outermost h) (last (is stores h) (length h))) refl
+  ended-meets inside = go (eqb (depth h) 1) refl (ltb (outermost h) (last (is storesSome h) (length h))) refl
     where
       judged : Finding
       judged = durable (ofHistory lines h) (lowest (λ b. ofHistory lines h .storedSince b && atRisk (ofHistory lines h) b) 0 (windowBytes lines))
 
-      go : (b : Bool) → eqb (depth h) 1 ≡ b → (c : Bool) → ltb (outermost h) (last (is stores h) (length h)) ≡ c → Ended h now n (cond b (cond c judged Empty) None)
-      go true e true s = Ended.outermost (eqb-true (depth h) 1 e) (since-is lines h stores s) (durable-meets (λ b. Since h (storesByte b)) _ (least _ _ 0 (windowBytes lines) (ended-decides inside)))
-      go true e false s = Ended.empty (eqb-true (depth h) 1 e) (λ x. contradiction (is-since lines h stores x) s)
+      go : (b : Bool) → eqb (depth h) 1 ≡ b → (c : Bool) → ltb (outermost h) (last (is storesSome h) (length h)) ≡ c → Ended h now n (cond b (cond c judged Empty) None)
+      go true e true s = Ended.outermost (eqb-true (depth h) 1 e) (since-is lines h storesSome s) (durable-meets (λ b. Since h (storesByte b)) _ (least _ _ 0 (windowBytes lines) (ended-decides inside)))
+      go true e false s = Ended.empty (eqb-true (depth h) 1 e) (λ x. contradiction (is-since lines h storesSome x) s)
       go false e c s = Ended.inner (eqb-false (depth h) 1 e)
 
 -- the finding of each kind of event
@@ -128,12 +128,12 @@ meets lines h inside r (WriteBack a) k = written-back lines h a _ (least _ _ (li
 meets lines h inside r Fence k = refl
 meets lines h inside r Begin k = refl
 meets lines h inside r (Log a) k = warned _ (least _ _ (a .address) (a .length) (log-decides lines h a))
-meets lines h inside r End k = ended-meets lines h r (no-effect-by k (record { noStore = refl; noBack = refl; noFence = refl })) inside
+meets lines h inside r End k = ended-meets lines h r (no-effect-by k (record { noStore = λ b. refl; noBack = λ l. refl; noFence = refl })) inside
 meets lines h inside r (Persisted a) k =
-    let q = no-effect-by k (record { noStore = refl; noBack = refl; noFence = refl }) in
+    let q = no-effect-by k (record { noStore = λ b. refl; noBack = λ l. refl; noFence = refl }) in
     durable-meets lines h r q (λ b. covers a b ≡ true) _ (least _ _ (a .address) (a .length) (persisted-decides lines h r q a))
 meets lines h inside r (Ordered a b) k =
-    let q = no-effect-by k (record { noStore = refl; noBack = refl; noFence = refl }) in
+    let q = no-effect-by k (record { noStore = λ b. refl; noBack = λ l. refl; noFence = refl }) in
     in-order lines h r q a b _
     (least-pair (breaks (ofHistory lines h)) a (BrokenPair (r ∷ h) (suc (length h)) a b) (b .address) (b .length)
     (λ kept from to. least _ _ (a .address) (a .length) (ordered-decides lines h r q a b kept (covering b kept from to)))

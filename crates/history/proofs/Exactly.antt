@@ -13,7 +13,7 @@ use Rattle.event.specs.declared.Record.{Record}
 use Rattle.event.specs.declared.Finding.{Finding}
 use Rattle.event.specs.declared.Finding.the-variants.{Holds}
 use Rattle.window.specs.Window.{covers}
-use Rattle.history.specs.History.{History, stores, storesByte}
+use Rattle.history.specs.History.{History, storesByte, storesSome}
 use Rattle.history.specs.View.{ofHistory}
 use Rattle.history.specs.Found.{findingBy}
 use Rattle.history.specs.Assertion.{BrokenByte, Persists, BrokenPair, Orders}
@@ -48,6 +48,6 @@ module _ (lines : ℕ) (h : History) (inside : Inside lines h) (r : Record) wher
   ordered-holds k = (orders-holds (claimed k), λ f. one-order (claimed k) (Orders.holds f))
 
   -- an outermost end with a store since its begin
-  pub end-holds : r .event ≡ End → depth h ≡ 1 → Since h stores →
+  pub end-holds : r .event ≡ End → depth h ≡ 1 → Since h storesSome →
       (findingBy (ofHistory lines h) (r .event) ≡ Holds) ↔ ((b : ℕ) → BrokenByte (r ∷ h) (suc (length h)) (λ b. Since h (storesByte b)) b → ⊥)
   end-holds k d s = (ended-holds-none (claimed k), λ f. one-end (claimed k) (Ended.outermost d s (Persists.holds f)))

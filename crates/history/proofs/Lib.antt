@@ -6,7 +6,7 @@ pub mod Interval  -- last stores, intervals and forced stores
 pub mod Image  -- what an allowed crash image can lose
 pub mod Search  -- what a search from the front finds
 pub mod Tests  -- the computed tests say what crash images say
-pub mod NoEffect  -- an assertion changes no last store and no interval
+pub mod NoEffect  -- what stores no byte, writes no line back and is no fence changes no last store and no interval
 pub mod Warning  -- the computed warnings meet their claims
 pub mod Claim  -- the computed finding meets its claim
 pub mod Unique  -- a claim admits one finding only

@@ -7,3 +7,4 @@ pub mod Refusals
 pub mod Totals
 pub mod Accepted
 pub mod Transactions
+pub mod NoBytes

@@ -1,4 +1,4 @@
--- An event that is no store, no write-back and no fence changes no last store and no interval.
+-- An event that stores no byte, writes no line back and is no fence changes no last store and no interval.
 use mathlib.Core.Path.{_≡_, refl, ap, _∙_, fun-ext}
 use mathlib.Core.Bool.{Bool, true, false, cond, _&&_}
 use mathlib.Core.List.{_∷_}
@@ -9,7 +9,7 @@ use lib.ListN.{length}
 use Rattle.event.specs.declared.Event.{Event}
 use Rattle.event.specs.declared.Record.{Record}
 use Rattle.history.specs.Count.{count, last, first, orElse, ifSome}
-use Rattle.history.specs.History.{History, is, stores, writesBack, fences, storesByte, writesBackLine}
+use Rattle.history.specs.History.{History, is, fences, storesByte, writesBackLine}
 use Rattle.history.specs.Interval.{epochAt, lastStore, backAfter, fenceAfter, intervalOf}
 use Rattle.history.proofs.History.{is-unchanged, is-beyond}
 
@@ -29,8 +29,8 @@ first-unchanged p s n e = rw e (go (ltb s (suc n)) (first p s n))
     go false (suc x) = refl
 
 pub record NoEffect (e : Event) : Type 0 where
-  pub noStore : stores e ≡ false
-  pub noBack : writesBack e ≡ false
+  pub noStore : (b : ℕ) → storesByte b e ≡ false
+  pub noBack : (l : ℕ) → writesBackLine l e ≡ false
   pub noFence : fences e ≡ false
 
 -- the last event that passes, after one that does not
@@ -43,7 +43,7 @@ is-first-unchanged p r h s e = rw (is-unchanged p r h e) (first-unchanged (is p 
 module _ (r : Record) (h : History) (q : NoEffect (r .event)) where
   pub last-store-unchanged : (b : ℕ) → lastStore (r ∷ h) b ≡ lastStore h b
   unfolding lastStore
-  last-store-unchanged b = is-last-unchanged (storesByte b) r h (rw (q .noStore))
+  last-store-unchanged b = is-last-unchanged (storesByte b) r h (q .noStore b)
 
   epoch-unchanged : (m : ℕ) → epochAt (r ∷ h) m ≡ epochAt h m
   unfolding epochAt
@@ -52,7 +52,7 @@ module _ (r : Record) (h : History) (q : NoEffect (r .event)) where
   fence-after-unchanged : (l s : ℕ) → fenceAfter (r ∷ h) l s ≡ fenceAfter h l s
   unfolding fenceAfter backAfter
   fence-after-unchanged l s =
-      ap (λ (w : ℕ). ifSome w 0 (λ w. first (is fences (r ∷ h)) w (length (r ∷ h)))) (is-first-unchanged (writesBackLine l) r h s (rw (q .noBack))) ∙
+      ap (λ (w : ℕ). ifSome w 0 (λ w. first (is fences (r ∷ h)) w (length (r ∷ h)))) (is-first-unchanged (writesBackLine l) r h s (q .noBack l)) ∙
       ap (λ (f : ℕ → ℕ). ifSome (first (is (writesBackLine l) h) s (length h)) 0 f) (fun-ext (λ w. is-first-unchanged fences r h w (q .noFence)))
 
   pub interval-unchanged : (b : ℕ) → intervalOf (r ∷ h) b ≡ intervalOf h b

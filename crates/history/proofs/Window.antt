@@ -11,7 +11,7 @@ use Rattle.event.proofs.Bools.{contradiction, fails, and-left, and-right, both,
 use Rattle.window.proofs.Meaning.{byte-touches, inside-window}
 use Rattle.history.specs.History.{stores, coversByte, storesByte, storesLine}
 
-any-implied : (p q : Range → Bool) → ((a : Range) → p a ≡ true → q a ≡ true) → (rs : List Range) → anyRange p rs ≡ true → anyRange q rs ≡ true
+pub any-implied : (p q : Range → Bool) → ((a : Range) → p a ≡ true → q a ≡ true) → (rs : List Range) → anyRange p rs ≡ true → anyRange q rs ≡ true
 any-implied p q f [] t = t
 any-implied p q f (a ∷ rs) t =
     ⊎-elim (λ (k : p a ≡ true). or-left (anyRange q rs) (f a k)) (λ (k : anyRange p rs ≡ true). or-right (q a) (any-implied p q f rs k)) (or-cases (p a) (anyRange p rs) t)

@@ -11,17 +11,17 @@ use Rattle.event.specs.declared.Record.{Record}
 use Rattle.event.specs.declared.Finding.{Finding}
 use Rattle.event.specs.declared.Finding.the-variants.{None, Unlogged, LoggedTwice, Empty}
 use Rattle.window.specs.Window.{covers}
-use Rattle.history.specs.History.{History, stores, storesByte}
+use Rattle.history.specs.History.{History, storesByte, storesSome}
 use Rattle.history.specs.Transaction.{depth, Since}
 use Rattle.history.specs.Assertion.{Persists, Orders}
 use Rattle.history.specs.Warning.{Warned, UnloggedByte, LoggedByte, WrittenBack}
 
--- an inner end has no finding; an outermost one with no store since its begin is empty; any other outermost end is judged as a
--- persisted over just the bytes stored since its begin would be
+-- an inner end has no finding; an outermost one with no store of some byte since its begin is empty; any other outermost end is
+-- judged as a persisted over just the bytes stored since its begin would be
 pub data Ended (h now : History) (n : ℕ) : Finding → Type 0 where
   inner : depth h ≢ 1 → Ended h now n None
-  empty : depth h ≡ 1 → (Since h stores → ⊥) → Ended h now n Empty
-  outermost : {f : Finding} → depth h ≡ 1 → Since h stores → Persists now n (λ b. Since h (storesByte b)) f → Ended h now n f
+  empty : depth h ≡ 1 → (Since h storesSome → ⊥) → Ended h now n Empty
+  outermost : {f : Finding} → depth h ≡ 1 → Since h storesSome → Persists now n (λ b. Since h (storesByte b)) f → Ended h now n f
 
 abbrev pub ClaimOf : History → History → ℕ → Event → Finding → Type 0
 ClaimOf h now n (Store a) f = Warned (UnloggedByte h a) Unlogged f

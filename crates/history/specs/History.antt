@@ -1,13 +1,16 @@
 -- The list of accepted events, the newest first, and the number of each.
-use mathlib.Core.Bool.{Bool, false, cond, _&&_}
+use mathlib.Core.Path.{_≡_}
+use mathlib.Core.Bool.{Bool, false, cond, not, _&&_}
 use mathlib.Core.List.{List, [], _∷_}
 use Prim.Native.Nat.{ℕ, suc}
 use lib.Dec.{eqb}
 use lib.ListN.{length}
+use Rattle.event.specs.declared.Range.{Range}
 use Rattle.event.specs.declared.Event.{Event}
+use Rattle.event.specs.declared.Event.the-variants.{Store, WriteBack, Log}
 use Rattle.event.specs.declared.Record.{Record}
 use Rattle.event.specs.Numbers.{kindOf}
-use Rattle.window.specs.Window.{covers, touches, rangesOf, anyRange}
+use Rattle.window.specs.Window.{covers, isEmpty, touches, rangesOf, anyRange}
 
 abbrev pub History : Type 0
 History = List Record
@@ -43,9 +46,17 @@ coversByte b e = anyRange (λ a. covers a b) (rangesOf e)
 abbrev pub touchesLine : ℕ → Event → Bool
 touchesLine l e = anyRange (λ a. touches a l) (rangesOf e)
 
+-- a range of the event has a byte
+abbrev pub coversSome : Event → Bool
+coversSome e = anyRange (λ a. not (isEmpty a)) (rangesOf e)
+
 -- a store covering the byte
 abbrev pub storesByte : ℕ → Event → Bool
 storesByte b e = stores e && coversByte b e
+
+-- a store of some byte
+abbrev pub storesSome : Event → Bool
+storesSome e = stores e && coversSome e
 
 -- a store with a piece on the line
 abbrev pub storesLine : ℕ → Event → Bool
@@ -58,3 +69,9 @@ writesBackLine l e = writesBack e && touchesLine l e
 -- a log of the byte
 abbrev pub logsByte : ℕ → Event → Bool
 logsByte b e = logs e && coversByte b e
+
+-- a store, a write-back or a log of a range of no bytes
+pub data OfNoBytes : Event → Type 0 where
+  store : {a : Range} → a .length ≡ 0 → OfNoBytes (Store a)
+  writeBack : {a : Range} → a .length ≡ 0 → OfNoBytes (WriteBack a)
+  log : {a : Range} → a .length ≡ 0 → OfNoBytes (Log a)

@@ -6,7 +6,7 @@ use lib.Dec.{ltb}
 use lib.ListN.{length}
 use Rattle.event.specs.declared.Interval.{Interval}
 use Rattle.history.specs.Count.{last}
-use Rattle.history.specs.History.{History, is, stores, storesLine, writesBackLine, logsByte}
+use Rattle.history.specs.History.{History, is, storesSome, storesLine, writesBackLine, logsByte}
 use Rattle.history.specs.Interval.{lastStore, intervalOf}
 use Rattle.history.specs.Transaction.{depth, outermost}
 
@@ -15,7 +15,7 @@ pub record View : Type 0 where
   pub events : ℕ  -- events taken
   pub depth : ℕ  -- transactions open
   pub begin : ℕ  -- the latest outermost begin
-  pub latestStore : ℕ  -- the latest store, whatever it covers
+  pub latestStore : ℕ  -- the latest store of some byte, whichever it is
   pub lastStore : ℕ → ℕ  -- a byte's last store
   pub lastLog : ℕ → ℕ  -- a byte's last log
   pub storedSince : ℕ → Bool  -- a byte was stored to since that begin
@@ -31,7 +31,7 @@ ofHistory lines h =
       events = length h;
       depth = depth h;
       begin = outermost h;
-      latestStore = last (is stores h) (length h);
+      latestStore = last (is storesSome h) (length h);
       lastStore = lastStore h;
       lastLog = λ b. last (is (logsByte b) h) (length h);
       storedSince = λ b. ltb (outermost h) (lastStore h b);

@@ -37,8 +37,8 @@ module _ (lines events depth : ℕ) where
   passed e k = go (passed-unbroken (limitsBy (numbersOf lines events depth) e) k)
     where
       go : NoneBroken (limitsBy (numbersOf lines events depth) e) → Passes lines events depth e
-      go (NoneBroken.cons a (NoneBroken.cons b (NoneBroken.cons c (NoneBroken.cons d (NoneBroken.cons f g))))) =
-          record { room = leb-false 65535 events c; ranges = b; inside = d; nests = f }
+      go (NoneBroken.cons a (NoneBroken.cons b (NoneBroken.cons c (NoneBroken.cons d e)))) =
+          record { room = leb-false 65535 events b; ranges = a; inside = c; nests = d }
 
   -- a begin that passes is at a depth below 8
   pub begin-below : refusalBy (numbersOf lines events depth) Begin ≡ Passed → depth < 8

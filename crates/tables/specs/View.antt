@@ -3,10 +3,13 @@ use mathlib.Core.Bool.{cond, _&&_}
 use mathlib.Core.List.{List}
 use Prim.Native.Nat.{ℕ, min}
 use lib.Dec.{eqb, ltb}
+use Rattle.event.specs.declared.Range.{Range}
+use Rattle.event.specs.declared.Event.the-variants.{Store}
 use Rattle.event.specs.declared.Interval.{Interval}
 use Rattle.event.specs.declared.Interval.the-variants.{None, Open, Closed}
 use Rattle.window.specs.Window.{mostLines, lineOf}
 use Rattle.history.specs.Count.{ifSome}
+use Rattle.history.specs.History.{storesSome}
 use Rattle.history.specs.View.{View}
 use Rattle.limits.specs.Limits.{numbersOf}
 use Rattle.tables.specs.declared.Counts.{Counts}
@@ -29,6 +32,10 @@ linesOf counts = min (counts .lines) mostLines
 -- the latest outermost begin after a begin with this number: it, where no transaction was open
 abbrev pub beginAfter : (depth begin number : ℕ) → ℕ
 beginAfter depth begin number = cond (eqb depth 0) number begin
+
+-- the latest store of some byte after a store with this number: it, where the range has a byte
+abbrev pub storeAfter : Range → (store number : ℕ) → ℕ
+storeAfter a store number = cond (storesSome (Store a)) number store
 
 -- what the limits on an event ask of a run
 abbrev pub limitsOf : Counts → View

@@ -4,7 +4,7 @@ use event::Range;
 ghost use mathlib.Core.Path.{_≡_};
 ghost use Prim.Native.Nat.{min};
 ghost use Rattle.tables.specs.Table.{inTables};
-ghost use Rattle.tables.specs.View.{noCounts, linesOf, beginAfter, intervalFrom};
+ghost use Rattle.tables.specs.View.{noCounts, linesOf, beginAfter, storeAfter, intervalFrom};
 
 // The numbers of a run. Event numbers start at 1, and 0 stands for none.
 pub struct Counts {
@@ -14,7 +14,7 @@ pub struct Counts {
     pub findings: u16, // other than none
     pub depth: u16, // transactions open
     pub begin: u16, // the latest outermost begin
-    pub store: u16, // the latest store
+    pub store: u16, // the latest store of some byte
     pub fence: u16, // the latest fence
 }
 
@@ -64,6 +64,13 @@ pub fn begin_after(depth: u16, begin: u16, number: u16) -> u16
     ensures { λ r. ⌜ r ≡ beginAfter depth begin number ⌝ }
 {
     if depth == 0 { number } else { begin }
+}
+
+// The latest store of some byte after a store: this one, where the range has a byte.
+pub fn store_after(a: Range, store: u16, number: u16) -> u16
+    ensures { λ r. ⌜ r ≡ storeAfter a store number ⌝ }
+{
+    if window::is_empty(a) { store } else { number }
 }
 
 // A byte's interval, from its last store and the epochs at which the interval opened and closed.

@@ -27,7 +27,7 @@ fn read_part(header: &[u8], at: u8, buf: &mut [u8]) -> usize
     io::read_full(STDIN_FILENO, &mut buf[..len])
 }
 
-// `differs: refused/8-length-0-last`, or nothing where the entry is the same.
+// `differs: small/torn`, or nothing where the entry is the same.
 fn print_differs(name: &[u8], same: bool) {
     if same {
         return;
@@ -92,14 +92,22 @@ fn print_count(words: &[u8], n: u32) {
     io::write_all(STDOUT_FILENO, b"\n");
 }
 
+// `refused by 9 135`; nothing for 8, which nothing is refused by.
+fn print_refused(number: u8, n: u32) {
+    if number == 8 {
+        return;
+    }
+    io::write_all(STDOUT_FILENO, b"refused by ");
+    io::print_decimal(STDOUT_FILENO, number as u64);
+    print_count(b"", n);
+}
+
 // How many traces were accepted, and how many refused by each number.
 fn print_answers(answers: &[u32; 15]) {
     print_count(b"accepted", answers[0]);
     let mut i: u8 = 1;
     while i < 15 {
-        io::write_all(STDOUT_FILENO, b"refused by ");
-        io::print_decimal(STDOUT_FILENO, i as u64);
-        print_count(b"", answers[i as usize]);
+        print_refused(i, answers[i as usize]);
         i += 1;
     }
 }

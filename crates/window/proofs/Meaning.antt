@@ -6,10 +6,10 @@ use mathlib.Core.Logic.{_≢_}
 use Prim.Native.Nat.{ℕ, _+_, _*_, _-_, _≤_, _<_, max}
 use native.Mathlib.Omega.{arith}
 use lib.Dec.{leb, ltb}
-use borrow.Author.Tests.{not-true, eqb-false, ne-eqb, leb-true, le-leb, ltb-true, ltb-false, lt-ltb}
+use borrow.Author.Tests.{not-true, eqb-false, eq-eqb, ne-eqb, leb-true, le-leb, ltb-true, ltb-false, lt-ltb}
 use Rattle.event.specs.declared.Range.{Range}
 use Rattle.window.specs.Window.{mostLines, windowBytes, lineOf, wordBytes, wordOf, lineStart, rangeEnd, covers, isEmpty, touches, lineCount, isPast}
-use Rattle.event.proofs.Bools.{and-left, and-right, both}
+use Rattle.event.proofs.Bools.{contradiction, fails, fails-not, not-of, and-left, and-right, both}
 
 -- A range covers the bytes from its address on that lie before its end.
 pub record Covered (r : Range) (byte : ℕ) : Type 0 where
@@ -72,6 +72,22 @@ below-touched r line from to = go (isEmpty r) refl
     go true e = absurd (omega (arith, from, rw e at to))
     go false e = touching r line (record { some = eqb-false (r .length) 0 e; from = from; to = omega (arith, from, rw e at to) })
 
+-- A range of length 0 covers no byte and touches no line; every other covers the byte at its address.
+pub empty-covers : (r : Range) (byte : ℕ) → r .length ≡ 0 → covers r byte ≡ false
+empty-covers r byte z = fails (covers r byte) (λ e. omega (arith, covered r byte e .from, covered r byte e .to, z))
+
+pub empty-touches : (r : Range) (line : ℕ) → r .length ≡ 0 → touches r line ≡ false
+empty-touches r line z = fails (touches r line) (λ e. touched r line e .some z)
+
+pub no-lines : (r : Range) → r .length ≡ 0 → lineCount r ≡ 0
+no-lines r z = rw (eq-eqb (r .length) 0 z)
+
+pub covers-some : (r : Range) (byte : ℕ) → covers r byte ≡ true → not (isEmpty r) ≡ true
+covers-some r byte e = not-of (ne-eqb (r .length) 0 (λ z. contradiction e (empty-covers r byte z)))
+
+pub covers-first : (r : Range) → r .length ≢ 0 → covers r (r .address) ≡ true
+covers-first r n = covering r (r .address) (omega arith) (omega (arith, n))
+
 -- A line starts at its first byte.
 pub line-start-is-first : (line : ℕ) → line < 64 → (lineOf (lineStart line) ≡ line) × ((byte : ℕ) → lineOf byte ≡ line → lineStart line ≤ byte)
 line-start-is-first line h = simp (lt-ltb line 64 h) (omega arith)
@@ -95,6 +111,13 @@ largest-address lines byte few inside = omega arith
 
 pub largest-is-one : 4095 < windowBytes mostLines
 largest-is-one = omega arith
+
+-- A range of length 0 lies in the window where its address is at most the window's size in bytes, and runs past it beyond.
+pub empty-inside : (lines : ℕ) (r : Range) → r .length ≡ 0 → r .address ≤ windowBytes lines → isPast lines r ≡ false
+empty-inside lines r z k = fails (isPast lines r) (λ e. omega (arith, ltb-true))
+
+pub empty-beyond : (lines : ℕ) (r : Range) → r .length ≡ 0 → windowBytes lines < r .address → isPast lines r ≡ true
+empty-beyond lines r z k = fails-not (isPast lines r) (λ e. omega (arith, ltb-false))
 
 -- A range that does not run past the window covers only bytes of the window.
 pub inside-window : (lines : ℕ) (r : Range) → isPast lines r ≡ false → (byte : ℕ) → covers r byte ≡ true → byte < windowBytes lines

@@ -1,4 +1,4 @@
--- The window: its size, its lines and words, what a range covers and which lines it touches, and the limits 4, 8 and 9.
+-- The window: its size, its lines and words, what a range covers and which lines it touches, and the limits 4 and 9.
 use mathlib.Core.Bool.{Bool, false, cond, not, _&&_, _||_}
 use mathlib.Core.List.{List, [], _∷_}
 use Prim.Native.Nat.{ℕ, _+_, _*_, _/_, _-_}
@@ -6,7 +6,7 @@ use lib.Dec.{leb, ltb, eqb}
 use Rattle.event.specs.declared.Range.{Range}
 use Rattle.event.specs.declared.Event.{Event}
 use Rattle.event.specs.declared.Event.the-variants.{Store, WriteBack, Fence, Begin, Log, End, Persisted, Ordered}
-use Rattle.event.specs.declared.Refusal.the-variants.{BadLines, EmptyRange, PastWindow}
+use Rattle.event.specs.declared.Refusal.the-variants.{BadLines, PastWindow}
 use Rattle.event.specs.declared.Check.{Check}
 use Rattle.event.specs.declared.Check.the-variants.{Passed, Refused}
 
@@ -45,7 +45,7 @@ rangeEnd r = r .address + r .length
 abbrev pub covers : Range → ℕ → Bool
 covers r byte = leb (r .address) byte && ltb byte (rangeEnd r)
 
--- the range has no byte
+-- the range has no byte: its length is 0
 abbrev pub isEmpty : Range → Bool
 isEmpty r = eqb (r .length) 0
 
@@ -57,7 +57,7 @@ touches r line = not (isEmpty r) && leb (lineOf (r .address)) line && leb line (
 abbrev pub lineCount : Range → ℕ
 lineCount r = cond (isEmpty r) 0 (lineOf (rangeEnd r - 1) + 1 - lineOf (r .address))
 
--- the range runs past the window
+-- the range runs past the window; one of no bytes, where its address is beyond the window's size in bytes
 abbrev pub isPast : ℕ → Range → Bool
 isPast lines r = ltb (windowBytes lines) (rangeEnd r)
 
@@ -77,13 +77,9 @@ abbrev pub anyRange : (Range → Bool) → List Range → Bool
 anyRange p [] = false
 anyRange p (r ∷ rs) = p r || anyRange p rs
 
--- the limits 8 and 9, in this order
-abbrev pub limitsCheck : Bool → Bool → Check
-limitsCheck empty past = cond empty (Refused EmptyRange) (cond past (Refused PastWindow) Passed)
-
--- 8: a used length is 0; 9: a used range runs past the window
+-- 9: a used range runs past the window
 abbrev pub rangeCheck : ℕ → Event → Check
-rangeCheck lines e = limitsCheck (anyRange isEmpty (rangesOf e)) (anyRange (isPast lines) (rangesOf e))
+rangeCheck lines e = cond (anyRange (isPast lines) (rangesOf e)) (Refused PastWindow) Passed
 
 -- lines outside 1 to 64
 abbrev pub badLines : ℕ → Bool

@@ -1,10 +1,10 @@
-// The window: its size, its lines, how many of them a range touches, and the limits 4, 8 and 9.
+// The window: its size, its lines, how many of them a range touches, and the limits 4 and 9.
 use event::Check;
 use event::Event;
 use event::Range;
 use event::Refusal;
 ghost use mathlib.Core.Path.{_≡_};
-ghost use Rattle.window.specs.Window.{windowBytes, lineOf, lineStart, rangeEnd, isEmpty, lineCount, isPast, limitsCheck, rangeCheck, linesCheck};
+ghost use Rattle.window.specs.Window.{windowBytes, lineOf, lineStart, rangeEnd, isEmpty, lineCount, isPast, rangesOf, anyRange, rangeCheck, linesCheck};
 
 // The start address of each line of the largest window.
 const LINE_STARTS: [u16; 64] = [
@@ -133,48 +133,29 @@ pub fn is_past(lines: u16, r: Range) -> bool
     window_bytes(lines) < range_end(r)
 }
 
-// The limits 8 and 9, in this order.
-fn limits(empty: bool, past: bool) -> Check
-    ensures { λ c. ⌜ c ≡ limitsCheck empty past ⌝ }
-{
-    if empty {
-        return Check::Refused(Refusal::EmptyRange);
-    }
-    if past {
-        return Check::Refused(Refusal::PastWindow);
-    }
-    Check::Passed
-}
-
-// The limits 8 and 9 on one range.
-fn check_one(lines: u16, r: Range) -> Check
-    ensures { λ c. ⌜ c ≡ rangeCheck lines (Event.Store r) ⌝ }
-{
-    limits(is_empty(r), is_past(lines, r))
-}
-
-// The limits 8 and 9 on two ranges.
-fn check_two(lines: u16, a: Range, b: Range) -> Check
-    ensures { λ c. ⌜ c ≡ rangeCheck lines (Event.Ordered a b) ⌝ }
-{
-    limits(
-        is_empty(a) || is_empty(b),
-        is_past(lines, a) || is_past(lines, b),
-    )
-}
-
-// The limits 8 and 9 on the ranges that an event uses.
-pub fn check_ranges(lines: u16, e: Event) -> Check
-    ensures { λ c. ⌜ c ≡ rangeCheck lines e ⌝ }
+// Whether a range that the event uses runs past the window.
+fn any_past(lines: u16, e: Event) -> bool
+    ensures { λ t. ⌜ t ≡ anyRange (isPast lines) (rangesOf e) ⌝ }
 {
     match e {
         Event::Store(a) | Event::WriteBack(a) | Event::Log(a) | Event::Persisted(a) => {
-            check_one(lines, a)
+            is_past(lines, a)
         }
-        Event::Ordered(a, b) => check_two(lines, a, b),
-        Event::Fence => Check::Passed,
-        Event::Begin => Check::Passed,
-        Event::End => Check::Passed,
+        Event::Ordered(a, b) => is_past(lines, a) || is_past(lines, b),
+        Event::Fence => false,
+        Event::Begin => false,
+        Event::End => false,
+    }
+}
+
+// The limit 9 on the ranges that an event uses.
+pub fn check_ranges(lines: u16, e: Event) -> Check
+    ensures { λ c. ⌜ c ≡ rangeCheck lines e ⌝ }
+{
+    if any_past(lines, e) {
+        Check::Refused(Refusal::PastWindow)
+    } else {
+        Check::Passed
     }
 }
 

@@ -12,6 +12,11 @@ const TORN_RUNS: usize = 30;
 const EXPOSURE_SEED: u64 = 203;
 const EXPOSURE_RUNS: usize = 20;
 const EXPOSED_EVENTS: usize = 20;
+const NO_BYTES_SEED: u64 = 204;
+const NO_BYTES_RUNS: usize = 10;
+const NO_BYTES_EVENTS: usize = 12;
+/// How many of 100 ranges have no byte in those runs.
+const NO_BYTES: usize = 40;
 /// Windows beside those of 1, 2, 63 and 64 lines.
 const OTHER: [u16; 8] = [3, 4, 5, 8, 16, 31, 32, 62];
 /// Windows that are refused; the low bytes of some would be taken.
@@ -83,6 +88,21 @@ pub(super) fn exposure_cases() -> Vec<Case> {
     (0..EXPOSURE_RUNS).map(run).collect()
 }
 
+/// Runs with many ranges of no bytes, and bytes asked between them.
+pub(super) fn no_bytes_cases() -> Vec<Case> {
+    let mut random = Random::new(NO_BYTES_SEED);
+    let run = |number| {
+        let lines = window(&mut random, number);
+        let mut drawer = Drawer::new(&mut random, lines);
+        drawer.draw_no_bytes();
+        Case {
+            group: "no bytes random",
+            calls: drawer.calls,
+        }
+    };
+    (0..NO_BYTES_RUNS).map(run).collect()
+}
+
 /// Events for a window of so many lines, with some that may be refused among them.
 pub(super) fn events(random: &mut Random, lines: u16) -> Vec<Event> {
     let mut drawer = Drawer::new(random, lines);
@@ -146,6 +166,21 @@ impl Drawer<'_> {
         let shape = self.shape();
         for event in self.events(&shape) {
             self.give(event);
+        }
+        self.calls.push(Call::Close);
+    }
+
+    fn draw_no_bytes(&mut self) {
+        let shape = Shape {
+            events: NO_BYTES_EVENTS,
+            no_bytes: NO_BYTES,
+            ..self.shape()
+        };
+        for event in self.events(&shape) {
+            self.give(event);
+            if self.random.chance(1, 8) {
+                self.calls.push(Call::Exposure);
+            }
         }
         self.calls.push(Call::Close);
     }
@@ -296,9 +331,11 @@ impl Drawer<'_> {
         }
         let range = self.random.pick(&self.latest);
         let (first, end) = (usize::from(range.address), range.end());
-        let (line, lines_end) = (first / LINE * LINE, end.next_multiple_of(LINE));
-        let inside = [first, end - 1];
-        let outside = [first.saturating_sub(1), end, line, lines_end - 1];
+        // The last byte; of a range of no bytes, the one in front of it.
+        let last = end.saturating_sub(1);
+        let (line, line_end) = (first / LINE * LINE, last / LINE * LINE + LINE - 1);
+        let inside = [first, last];
+        let outside = [first.saturating_sub(1), end, line, line_end];
         if self.random.chance(2, 3) {
             self.random.pick(&inside)
         } else {
@@ -317,7 +354,7 @@ impl Drawer<'_> {
         }
     }
 
-    /// An event with a range that is empty, past the window or at its end.
+    /// An event with a range of no bytes, past the window or at its end.
     fn event_at_the_end(&mut self, shape: &Shape) -> Event {
         let odd = self.odd_range();
         let other = if self.random.chance(1, 3) {
@@ -340,7 +377,9 @@ impl Drawer<'_> {
         let window = self.lines * LINE as u16;
         let length = 1 + self.random.below(16) as u16;
         let any = self.random.bits() as u16;
-        let at = self.random.pick(&[0, 1, window - 1, window, any]);
+        let at = self
+            .random
+            .pick(&[0, 1, window - 1, window, window + 1, any]);
         let ranges = [
             Range::new(at, 0),
             Range::new(window - length, length),

@@ -53,7 +53,7 @@ const FEW: [&str; 22] = [
     // The opening epoch is not 0.
     "fresh 2; fence; fence; store 0/8; write-back 0/8; fence; exposure; ask 0",
     // Behind refused events, which change nothing.
-    "fresh 2; end; exposure; store 0/8; write-back 0/8; fence; store 127/2; exposure; store 0/0;
+    "fresh 2; end; exposure; store 0/8; write-back 0/8; fence; store 127/2; exposure; store 129/0;
     exposure; log 0/8; exposure; write-back 128/1; end; exposure",
     // With transactions open, up to the deepest.
     "fresh 2; begin; exposure; store 0/8; exposure; write-back 0/8; fence; exposure; close; end;

@@ -9,6 +9,7 @@ mod closed;
 mod count;
 mod drawn;
 mod exposures;
+mod no_bytes;
 mod writer_drawn;
 mod writer_written;
 mod writing;
@@ -76,6 +77,8 @@ impl Calls {
         cases.extend(drawn::torn_cases());
         cases.extend(exposures::cases());
         cases.extend(drawn::exposure_cases());
+        cases.extend(no_bytes::cases());
+        cases.extend(drawn::no_bytes_cases());
         cases.extend(writer_written::cases());
         cases.extend(writer_drawn::cases());
         let entries = cases.into_iter().map(entry).collect::<Result<_, _>>()?;

@@ -124,11 +124,12 @@ impl Drawer<'_> {
         }
     }
 
-    /// The record with another kind, or with a byte set that may be lacking.
+    /// The record with another kind, with a byte set that may be lacking, or with a length of 0.
     fn damaged(&mut self, mut record: [u8; RECORD]) -> [u8; RECORD] {
-        match self.random.below(3) {
+        match self.random.below(5) {
             0 => record[0] = self.random.pick(&[0, 9, 10, 16, 33, 63]),
             1 => record[1] = self.random.pick(&[1, 128, 255]),
+            2 => record[4..6].fill(0),
             _ => record[2 + self.random.below(8)] ^= 1 << self.random.below(8),
         }
         record

@@ -19,6 +19,7 @@ pub(super) fn cases() -> Vec<Case> {
     add("writer closings", closings());
     add("writer preambles", PREAMBLES.map(String::from).to_vec());
     add("writer numbers", numbers());
+    add("writer no bytes", NO_BYTES.map(String::from).to_vec());
     cases.extend(records());
     cases
 }
@@ -65,11 +66,11 @@ const LENGTHS: [&str; 12] = [
     write persisted 0/8; finish; write persisted 0/8; finish",
     // 2 before every other number that applies, the area too short among them.
     "area 65509; preamble 65509 from 3; start 2; write record 09 01 ff ff ff ff ff ff ff ff 00 00;
-    write record 03 01 00 00 00 00 00 00 00 00 00 00; write store 0/0; write store 128/1;
+    write record 03 01 00 00 00 00 00 00 00 00 00 00; write store 129/0; write store 128/1;
     write log 0/8; write end; write begin; finish",
     // With one byte less it does not apply.
     "area 65508; preamble 65508 from 3; start 2; write record 09 01 ff ff ff ff ff ff ff ff 00 00;
-    write record 03 01 00 00 00 00 00 00 00 00 00 00; write store 0/0; write store 128/1;
+    write record 03 01 00 00 00 00 00 00 00 00 00 00; write store 129/0; write store 128/1;
     write log 0/8; write end; write begin; finish",
 ];
 
@@ -116,7 +117,7 @@ fn refused() -> Vec<String> {
     let bad = [
         "write record 00 00 00 00 00 00 00 00 00 00 00 00",
         "write record 06 00 01 00 00 00 00 00 00 00 00 00",
-        "write persisted 8/0",
+        "write persisted 129/0",
         "write ordered 0/8 before 121/8",
         "start 0",
     ];
@@ -142,7 +143,7 @@ fn refused() -> Vec<String> {
 fn refused_when_full(unknown: &str) -> [String; 2] {
     let full = "area 65536; preamble 65484 from 9; start 2";
     let stores = ["write store 0/8", "write store 8/8", "write store 16/8"];
-    let tried = ["write log 0/8", "write store 0/0", unknown];
+    let tried = ["write log 0/8", "write store 129/0", unknown];
     let in_file = between(full, &stores, &tried) + "; write fence; finish";
     let short = "area 45; preamble 9 from 9; start 2";
     let tried = ["write record 01 01 00 00 08 00 00 00 00 00 00 00", "finish"];
@@ -169,7 +170,7 @@ fn depth() -> String {
         "area 120; preamble 1 from 7; start 1; {begins};
         write record 04 01 00 00 00 00 00 00 00 00 00 00;
         write record 04 00 01 00 00 00 00 00 00 00 00 00;
-        write record 04 00 00 00 00 00 00 00 00 01 00 00; write store 0/0; write log 64/1;
+        write record 04 00 00 00 00 00 00 00 00 01 00 00; write store 65/0; write log 64/1;
         write begin; write log 0/8; write begin; write end; finish"
     )
 }
@@ -282,7 +283,7 @@ fn far() -> String {
 }
 
 /// Lines: windows of no byte, of more than 64 lines, and with 65,536 bytes or more.
-const WINDOWS: &str = "area 60; writer 0 0 0 0; write store 0/0; write store 0/1; write fence;
+const WINDOWS: &str = "area 60; writer 0 0 0 0; write store 1/0; write store 0/1; write fence;
     finish; writer 65 0 0 0; write store 4159/1; write store 4160/1; writer 1023 0 0 0;
     write store 65471/1; write store 65472/1; writer 1024 0 0 0; write store 65535/1;
     write store 65535/2; writer 2047 0 0 0; write store 65535/65535; writer 2048 0 0 0;
@@ -305,6 +306,39 @@ const PLACES: [&str; 6] = [
     // A started file goes on from other numbers, and a start from any.
     "area 70; preamble 4 from 9; start 2; write begin; writer 1 4 0 0; write end; write fence;
     finish; writer 64 0 0 255; preamble 1 from 7; start 3; finish; write store 191/1; finish",
+];
+
+// Ranges of no bytes.
+
+const NO_BYTES: [&str; 8] = [
+    // Every place up to the window's size.
+    "area 100; preamble 2 from 1; start 2; write store 0/0; write write-back 64/0;
+    write persisted 127/0; write ordered 128/0 before 128/0; finish",
+    // Past the window, and a log with no transaction open.
+    "area 100; preamble 0 from 0; start 1; write store 65/0; write write-back 65/0; write log 65/0;
+    write persisted 65/0; write ordered 65/0 before 0/8; write ordered 0/8 before 65/0;
+    write ordered 64/0 before 65/0; write store 65535/0; write log 64/0; write store 64/0; finish",
+    // In a transaction.
+    "area 100; preamble 1 from 7; start 64; write log 0/0; write begin; write log 4096/0;
+    write store 4096/0; finish; write log 4097/0; write end; finish",
+    // 6 and 7 before 9.
+    "area 60; preamble 0 from 0; start 2; write record 01 01 00 00 00 00 00 00 00 00 00 00;
+    write record 01 00 00 00 00 00 01 00 00 00 00 00;
+    write record 01 00 c8 00 00 00 00 00 01 00 00 00;
+    write record 03 00 01 00 00 00 00 00 00 00 00 00;
+    write record 00 00 c8 00 00 00 00 00 00 00 00 00;
+    write record 08 00 80 00 00 00 81 00 00 00 00 00;
+    write record 08 00 80 00 00 00 80 00 00 00 09 00; finish",
+    // The area too short, and the file too long.
+    "area 11; preamble 0 from 0; start 1; write store 65/0; write store 64/0; finish",
+    "area 65536; preamble 65509 from 3; start 2; write store 129/0; write store 0/0; finish",
+    // In the trailer's place.
+    "area 60; preamble 0 from 0; start 2; finish; write store 8/0; finish; write store 129/0; finish",
+    // Windows of any count of lines, and of no byte.
+    "area 60; writer 0 0 0 0; write store 0/0; write store 1/0; write ordered 0/0 before 1/0; finish;
+    writer 65 0 0 0; write store 4160/0; write store 4161/0; writer 1024 0 0 0;
+    write store 65535/0; writer 1023 0 0 0; write store 65472/0; write store 65473/0;
+    writer 65535 0 0 0; write store 65535/0; finish",
 ];
 
 // Records: every kind of event, every kind that is unknown, and every field set.

@@ -52,7 +52,7 @@ fn limits() -> Vec<String> {
 const RANGES: &str = "fresh 2; store 120/8; store 121/8; persisted 121/8; ordered 0/8 before 121/8";
 
 const LENGTHS: &str = "fresh 2; store 0/0; write-back 0/0; log 0/0; persisted 0/0; store 200/0;
-    ordered 0/0 before 121/8; ordered 121/8 before 0/0";
+    ordered 0/0 before 121/8; ordered 121/8 before 0/0; close";
 
 fn last_byte(lines: u16) -> String {
     let (last, past) = (64 * lines - 1, 64 * lines);
@@ -65,7 +65,7 @@ fn nine_begins() -> String {
 }
 
 const LAST_EVENT: &str = "fresh 64; fences 30000; log 0/8; end; fences 35533; store 0/8;
-    persisted 0/8; fence; log 0/8; end; begin; store 4096/1; store 0/0; close; ask 0";
+    persisted 0/8; fence; log 0/8; end; begin; store 4096/1; store 4097/0; store 0/0; close; ask 0";
 
 const REFUSED_BETWEEN: &str = "fresh 2; store 0/8; write-back 0/8; log 0/8; store 127/2; fence;
     persisted 0/8; store 64/8; persisted 64/8; ask 0; close";
@@ -114,7 +114,8 @@ fn asked(events: &str) -> String {
     run + "; close"
 }
 
-/// The first and last bytes of the ranges, and those just outside of them.
+/// The first and last bytes of the ranges, and those just outside of them. A range of no bytes has
+/// those on both sides of its address.
 fn edges(case: &Case) -> BTreeSet<usize> {
     let events = case.calls.iter().filter_map(|call| match call {
         Call::Give(record) => Some(record.event),
@@ -123,7 +124,7 @@ fn edges(case: &Case) -> BTreeSet<usize> {
     let ranges = events.flat_map(|event| [event.range_a(), event.range_b()]);
     let bytes = ranges.flatten().flat_map(|range| {
         let (first, end) = (usize::from(range.address), range.end());
-        [first.saturating_sub(1), first, end - 1, end]
+        [first.saturating_sub(1), first, end.saturating_sub(1), end]
     });
     bytes.collect()
 }
@@ -169,7 +170,7 @@ const EPOCHS: &str = "fresh 1; fences 255; store 0/8; fence; ask 0; write-back 0
 
 /// Behind eight begins: the last event is taken with every transaction open.
 const NESTED: &str = "fences 65525; store 64/8; persisted 64/8; begin; end; log 0/8; log 0/0;
-    log 128/1; ask 63; ask 64; ask 128; close";
+    log 129/0; log 128/1; ask 63; ask 64; ask 128; close";
 
 // Torn stores.
 

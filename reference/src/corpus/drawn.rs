@@ -16,6 +16,7 @@ pub(super) fn add(cases: &mut Cases) {
     areas(cases);
     long(cases);
     torn(cases);
+    no_bytes(cases);
 }
 
 fn small(cases: &mut Cases) {
@@ -90,6 +91,7 @@ fn long(cases: &mut Cases) {
             mix: Mix::EVEN,
             longest: [4096, 64, 200, 8, 16, 3][number],
             ranges: [0, 20, 0, 30, 10, 6][number],
+            no_bytes: [4, 4, 20, 4, 20, 4][number],
         };
         let trace = random::valid(&mut random, &shape);
         cases.add(&format!("long/mixed-{number}"), trace);
@@ -108,6 +110,7 @@ fn long(cases: &mut Cases) {
         },
         longest: 300,
         ranges: 0,
+        no_bytes: 4,
     };
     let records = random::events(&mut random, &shape);
     cases.add("long/largest", trace::write(64, &[], &records));
@@ -124,6 +127,7 @@ fn large_ranges(cases: &mut Cases, random: &mut Random) {
         mix: Mix::PLAIN,
         longest: 4096,
         ranges: 0,
+        no_bytes: 4,
     };
     let records = random::events(random, &shape);
     cases.add("long/large-ranges", trace::write(64, &[], &records));
@@ -164,5 +168,23 @@ fn torn(cases: &mut Cases) {
         let shape = random::torn_shape(&mut random);
         let trace = random::valid(&mut random, &shape);
         cases.add(&format!("random/torn-{number}"), trace);
+    }
+}
+
+/// Many ranges of no bytes.
+fn no_bytes(cases: &mut Cases) {
+    let mut random = Random::new(108);
+    for number in 0..25 {
+        let shape = match number % 3 {
+            0 => random::any_shape(&mut random),
+            1 => random::torn_shape(&mut random),
+            _ => random::small_shape(&mut random),
+        };
+        let shape = Shape {
+            no_bytes: 40,
+            ..shape
+        };
+        let trace = random::valid(&mut random, &shape);
+        cases.add(&format!("random/no-bytes-{number}"), trace);
     }
 }

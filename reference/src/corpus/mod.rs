@@ -4,13 +4,15 @@
 
 mod drawn;
 mod layout;
+pub mod no_bytes;
 mod refused;
+pub mod run;
 pub(crate) mod runs;
 pub mod torn;
 
 use crate::check::check;
 use crate::finding::Kind;
-use crate::outcome::{area_after, listing, Outcome};
+use crate::outcome::{area_after, listing, Outcome, OF_TRACES};
 use crate::script::Script;
 use crate::trace::{self, RECORD};
 use crate::{images, judge, judge_by_images};
@@ -114,7 +116,7 @@ impl Corpus {
         };
         line("traces", outcomes().count());
         line("accepted", outcomes().filter_map(Outcome::report).count());
-        for number in 1..=14 {
+        for number in OF_TRACES {
             let refused = outcomes().filter_map(Outcome::refusal);
             let count = refused.filter(|refusal| refusal.number == number).count();
             line(&format!("refused by {number}"), count);
@@ -135,6 +137,7 @@ fn own_cases() -> Vec<Case> {
     let mut cases = Cases::default();
     runs::add(&mut cases);
     torn::add(&mut cases);
+    no_bytes::add(&mut cases);
     refused::add(&mut cases);
     layout::add(&mut cases);
     drawn::add(&mut cases);

@@ -7,7 +7,8 @@ use crate::trace::{self, raw_record, raw_trailer, MARK, RECORD, TRAILER};
 const NOTHING: Range = Range::new(0, 0);
 
 /// A good run of two lines in which any record may be replaced.
-const GOOD: &str = "begin; log 0/8; store 0/8; write-back 0/8; fence; persisted 0/8; end";
+pub(super) const GOOD: &str =
+    "begin; log 0/8; store 0/8; write-back 0/8; fence; persisted 0/8; end";
 const PLACES: [(&str, usize); 3] = [("first", 0), ("middle", 3), ("last", 6)];
 
 pub(super) fn add(cases: &mut Cases) {
@@ -17,7 +18,6 @@ pub(super) fn add(cases: &mut Cases) {
     areas(cases);
     kinds(cases);
     lacking_fields(cases);
-    lengths(cases);
     ranges(cases);
     transactions(cases);
     orders_in_front(cases);
@@ -33,7 +33,7 @@ fn replaced(place: usize, record: [u8; RECORD]) -> Vec<u8> {
 }
 
 /// A record at the first, a middle and the last place of the good run.
-fn everywhere(cases: &mut Cases, name: &str, record: [u8; RECORD]) {
+pub(super) fn everywhere(cases: &mut Cases, name: &str, record: [u8; RECORD]) {
     for (word, place) in PLACES {
         cases.add(&format!("{name}-{word}"), replaced(place, record));
     }
@@ -179,24 +179,6 @@ fn lacking_fields(cases: &mut Cases) {
     }
 }
 
-fn lengths(cases: &mut Cases) {
-    for word in ["store", "write-back", "log", "persisted"] {
-        let record = records(&format!("{word} 8/0"))[0];
-        everywhere(cases, &format!("refused/8-{word}"), record);
-    }
-    for (name, event) in [
-        ("a", "ordered 8/0 before 0/8"),
-        ("b", "ordered 0/8 before 8/0"),
-        ("ab", "ordered 0/0 before 0/0"),
-    ] {
-        everywhere(
-            cases,
-            &format!("refused/8-ordered-{name}"),
-            records(event)[0],
-        );
-    }
-}
-
 fn ranges(cases: &mut Cases) {
     for word in ["store", "write-back", "log", "persisted"] {
         let record = records(&format!("{word} 121/8"))[0];
@@ -276,7 +258,7 @@ fn orders_in_front(cases: &mut Cases) {
     for (name, trace, area) in runs {
         cases.add_with_area(&format!("order/{name}"), trace, area);
     }
-    for events in ["end", "begin", "store 0/0", "store 0/129", "log 0/8"] {
+    for events in ["end", "begin", "store 129/0", "store 0/129", "log 0/8"] {
         let trace = trace::assemble(2, &[], &records(events));
         let word = events.replace([' ', '/'], "-");
         cases.add_with_area(&format!("order/14-before-{word}"), trace, 11);
@@ -291,23 +273,40 @@ fn orders_in_a_record(cases: &mut Cases) {
     let far = Range::new(200, 0);
     let runs = [
         ("6-before-7", raw_record(9, 1, NOTHING, NOTHING, 0)),
-        ("6-before-8", raw_record(0, 0, empty, empty, 0)),
+        ("6-with-no-bytes", raw_record(0, 0, empty, empty, 0)),
         ("6-before-9", raw_record(0, 0, past, past, 0)),
+        ("6-before-9-no-bytes", raw_record(9, 0, far, far, 0)),
         (
-            "7-before-8-store",
+            "7-with-no-bytes-store",
             raw_record(Event::STORE, 1, empty, NOTHING, 0),
         ),
         (
-            "7-before-8-b",
+            "7-with-no-bytes-b",
             raw_record(Event::STORE, 0, NOTHING, good, 0),
+        ),
+        (
+            "7-with-no-bytes-b-address",
+            raw_record(Event::STORE, 0, empty, empty, 0),
+        ),
+        (
+            "7-with-no-bytes-fence",
+            raw_record(Event::FENCE, 0, empty, NOTHING, 0),
+        ),
+        (
+            "7-before-9-no-bytes-store",
+            raw_record(Event::STORE, 0, far, good, 0),
         ),
         (
             "7-before-9-store",
             raw_record(Event::STORE, 0, past, good, 0),
         ),
         (
-            "7-before-8-ordered",
+            "7-with-no-bytes-ordered",
             raw_record(Event::ORDERED, 1, empty, good, 0),
+        ),
+        (
+            "7-before-9-no-bytes-ordered",
+            raw_record(Event::ORDERED, 1, empty, far, 0),
         ),
         (
             "7-before-9-ordered",
@@ -319,23 +318,27 @@ fn orders_in_a_record(cases: &mut Cases) {
             raw_record(Event::END, 0, good, NOTHING, 0),
         ),
         (
-            "8-before-9-store",
+            "9-no-bytes-store",
             raw_record(Event::STORE, 0, far, NOTHING, 0),
         ),
         (
-            "8-before-9-a-b",
+            "9-past-beside-no-bytes",
             raw_record(Event::ORDERED, 0, empty, past, 0),
         ),
         (
-            "8-before-9-b-a",
+            "9-past-before-no-bytes",
             raw_record(Event::ORDERED, 0, past, empty, 0),
         ),
         (
-            "8-before-9-b-far",
+            "9-no-bytes-b-far",
             raw_record(Event::ORDERED, 0, good, far, 0),
         ),
-        ("8-before-11", raw_record(Event::LOG, 0, empty, NOTHING, 0)),
+        ("11-no-bytes", raw_record(Event::LOG, 0, empty, NOTHING, 0)),
         ("9-before-11", raw_record(Event::LOG, 0, past, NOTHING, 0)),
+        (
+            "9-before-11-no-bytes",
+            raw_record(Event::LOG, 0, far, NOTHING, 0),
+        ),
     ];
     for (name, record) in runs {
         let mut all = records("store 0/8; fence");
@@ -355,8 +358,8 @@ fn orders_of_records(cases: &mut Cases) {
     let bad = [
         ("6", records("record 09 00 00 00 00 00 00 00 00 00 00 00")),
         ("7", records("record 03 01 00 00 00 00 00 00 00 00 00 00")),
-        ("8", records("persisted 0/0")),
         ("9", records("persisted 0/129")),
+        ("9-no-bytes", records("persisted 129/0")),
         ("11", records("end")),
         ("12", records(&repeat("begin", 9))),
     ];

@@ -72,7 +72,7 @@ fn small(cases: &mut Cases) {
 }
 
 /// An accepted trace of each kind of event that takes the range, if the range is good.
-fn with_range(range: &str) -> Vec<(&'static str, String)> {
+pub(super) fn with_range(range: &str) -> Vec<(&'static str, String)> {
     vec![
         ("store", format!("store {range}")),
         ("write-back", format!("write-back {range}")),

@@ -1,33 +1,8 @@
 //! Torn stores: orders between the words of one store, and of stores beside and over it.
 
+use super::run::Run;
 use super::Cases;
 use crate::event::{LINE, WORD};
-
-/// A run: its name, the window's lines, and its events as lines of a script, parted by semicolons.
-/// Every event but those that get none has its `expect`.
-#[derive(Clone, Debug, PartialEq, Eq)]
-pub struct Run {
-    pub name: String,
-    pub lines: u16,
-    pub script: String,
-}
-
-impl Run {
-    fn new(name: &str, lines: u16, script: &str) -> Run {
-        Run {
-            name: name.to_string(),
-            lines,
-            script: script.to_string(),
-        }
-    }
-
-    /// The events alone.
-    pub fn events(&self) -> String {
-        let lines = self.script.split(';').map(str::trim);
-        let events = lines.filter(|line| !line.starts_with("expect "));
-        events.collect::<Vec<_>>().join("; ")
-    }
-}
 
 pub(super) fn add(cases: &mut Cases) {
     for run in runs() {

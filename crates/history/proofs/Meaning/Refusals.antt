@@ -1,4 +1,4 @@
--- The window of a run and the refusals 8 to 12, in plain words.
+-- The window of a run and the refusals 9 to 12, in plain words.
 use mathlib.Core.Path.{_≡_, refl}
 use mathlib.Core.Bool.{Bool, true}
 use mathlib.Core.Logic.{_⊎_, inl, inr, ⊎-elim}
@@ -13,7 +13,7 @@ use Rattle.event.specs.declared.Event.{Event}
 use Rattle.event.specs.declared.Record.{Record}
 use Rattle.event.specs.declared.Refusal.{Refusal}
 use Rattle.event.specs.Numbers.{kindOf, numberOf}
-use Rattle.window.specs.Window.{isEmpty, isPast, rangesOf, anyRange}
+use Rattle.window.specs.Window.{isPast, rangesOf, anyRange}
 use Rattle.event.proofs.Bools.{contradiction, and-left, and-right, both, or-cases, or-left, or-right}
 use Rattle.history.specs.History.{History, begins, logs, ends}
 use Rattle.history.specs.Transaction.{depth}
@@ -31,7 +31,6 @@ window-refused asked (inr k) = rw (ne-eqb asked 0 (λ z. omega (arith, k, z)), l
 
 -- what each number says of an event after the history h
 pub data Applies (lines : ℕ) (h : History) (e : Event) : ℕ → Type 0 where
-  emptyRange : {a : Range} → List·Memᴰ a (rangesOf e) → a .length ≡ 0 → Applies lines h e 8
   pastWindow : {a : Range} → List·Memᴰ a (rangesOf e) → lines * 64 < a .address + a .length → Applies lines h e 9
   exhausted : 65535 ≤ length h → Applies lines h e 10
   noTransaction : (kindOf e ≡ 5) ⊎ (kindOf e ≡ 6) → depth h ≡ 0 → Applies lines h e 11
@@ -45,7 +44,7 @@ any-range p (r ∷ rs) e = go (or-cases (p r) (anyRange p rs) e) (any-range p rs
     go (inl k) rest = (r, List·Memᴰ·head refl, k)
     go (inr k) rest = (rest k .0, List·Memᴰ·tail (rest k .1), rest k .2)
 
-range-any : (p : Range → Bool) {a : Range} {rs : List Range} → List·Memᴰ a rs → p a ≡ true → anyRange p rs ≡ true
+pub range-any : (p : Range → Bool) {a : Range} {rs : List Range} → List·Memᴰ a rs → p a ≡ true → anyRange p rs ≡ true
 range-any p (List·Memᴰ·head {xs = xs} e) k = or-left (anyRange p xs) (rw e at k)
 range-any p (List·Memᴰ·tail {x = x} m) k = or-right (p x) (range-any p m k)
 
@@ -56,29 +55,25 @@ asks-open e (inr k) = rw k
 log-or-end : (e : Event) → asksOpen e ≡ true → (kindOf e ≡ 5) ⊎ (kindOf e ≡ 6)
 log-or-end e t = ⊎-elim (λ k. inl (eqb-true (kindOf e) 5 k)) (λ k. inr (eqb-true (kindOf e) 6 k)) (or-cases (logs e) (ends e) t)
 
--- the numbers are tried in the order 8, 9, 10, 11, 12
-pub limits-in-order : (lines : ℕ) (h : History) (e : Event) → limitNumbers (limitsBy (ofHistory lines h) e) ≡ 8 ∷ 9 ∷ 10 ∷ 11 ∷ 12 ∷ []
+-- the numbers are tried in the order 9, 10, 11, 12
+pub limits-in-order : (lines : ℕ) (h : History) (e : Event) → limitNumbers (limitsBy (ofHistory lines h) e) ≡ 9 ∷ 10 ∷ 11 ∷ 12 ∷ []
 limits-in-order lines h e = refl
 
 -- the number that refuses an event applies to it
 pub refused-applies : (lines : ℕ) (h : History) (r : Record) {x : Refusal} → RefusedBy lines h r x → Applies lines h (r .event) (numberOf x)
 refused-applies lines h r (First.here t) =
-    let a = any-range isEmpty (rangesOf (r .event)) t in
-    Applies.emptyRange (a .1) (eqb-true _ 0 (a .2))
-refused-applies lines h r (First.later a (First.here t)) =
     let a = any-range (isPast lines) (rangesOf (r .event)) t in
     Applies.pastWindow (a .1) (ltb-true _ _ (a .2))
-refused-applies lines h r (First.later a (First.later b (First.here t))) = Applies.exhausted (omega (arith, leb-true mostEvents (length h) t))
-refused-applies lines h r (First.later a (First.later b (First.later c (First.here t)))) =
+refused-applies lines h r (First.later a (First.here t)) = Applies.exhausted (omega (arith, leb-true mostEvents (length h) t))
+refused-applies lines h r (First.later a (First.later b (First.here t))) =
     Applies.noTransaction (log-or-end (r .event) (and-left (asksOpen (r .event)) (eqb (depth h) 0) t)) (eqb-true _ _ (and-right (asksOpen (r .event)) (eqb (depth h) 0) t))
-refused-applies lines h r (First.later a (First.later b (First.later c (First.later d (First.here t))))) =
+refused-applies lines h r (First.later a (First.later b (First.later c (First.here t)))) =
     let deep = leb-true mostDepth (depth h) (and-right (begins (r .event)) (leb mostDepth (depth h)) t) in
     Applies.tooDeep (eqb-true (kindOf (r .event)) 4 (and-left (begins (r .event)) (leb mostDepth (depth h)) t)) (omega (arith, deep))
 
 -- and none applies to one that is accepted
 pub accepted-none : (lines : ℕ) (h : History) (r : Record) {n : ℕ} → Accepted lines h r → Applies lines h (r .event) n → ⊥
-accepted-none lines h r (NoneBroken.cons f k) (Applies.emptyRange m e) = contradiction (range-any isEmpty m (eq-eqb _ 0 e)) f
-accepted-none lines h r (NoneBroken.cons a (NoneBroken.cons f k)) (Applies.pastWindow m e) = contradiction (range-any (isPast lines) m (lt-ltb _ _ e)) f
-accepted-none lines h r (NoneBroken.cons a (NoneBroken.cons b (NoneBroken.cons f k))) (Applies.exhausted e) = contradiction (le-leb mostEvents (length h) (omega (arith, e))) f
-accepted-none lines h r (NoneBroken.cons a (NoneBroken.cons b (NoneBroken.cons c (NoneBroken.cons f k)))) (Applies.noTransaction t e) = contradiction (both (asks-open (r .event) t) (eq-eqb _ 0 e)) f
-accepted-none lines h r (NoneBroken.cons a (NoneBroken.cons b (NoneBroken.cons c (NoneBroken.cons d (NoneBroken.cons f k))))) (Applies.tooDeep t e) = contradiction (both (eq-eqb (kindOf (r .event)) 4 t) (le-leb mostDepth (depth h) (omega (arith, e)))) f
+accepted-none lines h r (NoneBroken.cons f k) (Applies.pastWindow m e) = contradiction (range-any (isPast lines) m (lt-ltb _ _ e)) f
+accepted-none lines h r (NoneBroken.cons a (NoneBroken.cons f k)) (Applies.exhausted e) = contradiction (le-leb mostEvents (length h) (omega (arith, e))) f
+accepted-none lines h r (NoneBroken.cons a (NoneBroken.cons b (NoneBroken.cons f k))) (Applies.noTransaction t e) = contradiction (both (asks-open (r .event) t) (eq-eqb _ 0 e)) f
+accepted-none lines h r (NoneBroken.cons a (NoneBroken.cons b (NoneBroken.cons c (NoneBroken.cons f k)))) (Applies.tooDeep t e) = contradiction (both (eq-eqb (kindOf (r .event)) 4 t) (le-leb mostDepth (depth h) (omega (arith, e)))) f
