@@ -6,84 +6,11 @@ use event::Refusal;
 ghost use mathlib.Core.Path.{_≡_};
 ghost use Rattle.window.specs.Window.{windowBytes, lineOf, lineStart, rangeEnd, isEmpty, lineCount, isPast, rangesOf, anyRange, rangeCheck, linesCheck};
 
-// The start address of each line of the largest window.
-const LINE_STARTS: [u16; 64] = [
-    0,
-    64,
-    128,
-    192,
-    256,
-    320,
-    384,
-    448,
-    512,
-    576,
-    640,
-    704,
-    768,
-    832,
-    896,
-    960,
-    1024,
-    1088,
-    1152,
-    1216,
-    1280,
-    1344,
-    1408,
-    1472,
-    1536,
-    1600,
-    1664,
-    1728,
-    1792,
-    1856,
-    1920,
-    1984,
-    2048,
-    2112,
-    2176,
-    2240,
-    2304,
-    2368,
-    2432,
-    2496,
-    2560,
-    2624,
-    2688,
-    2752,
-    2816,
-    2880,
-    2944,
-    3008,
-    3072,
-    3136,
-    3200,
-    3264,
-    3328,
-    3392,
-    3456,
-    3520,
-    3584,
-    3648,
-    3712,
-    3776,
-    3840,
-    3904,
-    3968,
-    4032,
-];
-
-// The start address of a line, read from the table; 0 for a line beyond it.
+// The start address of a line: 64 times its number, and 0 beyond the largest window.
 pub fn line_start(line: u16) -> u16
     ensures { λ r. ⌜ r ≡ lineStart line ⌝ }
 {
-    if line < 64 {
-        let i = line as usize;
-        LINE_STARTS[i]
-    } else {
-        0
-    }
+    if line < 64 { line * 64 } else { 0 }
 }
 
 // The window's size in bytes.
