@@ -1,5 +1,5 @@
 -- Ranges of no bytes, in plain words: what an event with such a range does, and what it gets, after every history.
-use mathlib.Core.Path.{_≡_, refl, ap, _∙_}
+use mathlib.Core.Path.{_≡_, refl, ap, _∙_, sym}
 use mathlib.Core.Bool.{Bool, true, false, cond, not, or-false}
 use mathlib.Core.Logic.{_⊎_, _↔_, inl, inr}
 use mathlib.Core.List.{[], _∷_, List·Memᴰ}
@@ -9,7 +9,7 @@ use lib.ListN.{length}
 use borrow.Author.Tests.{not-true, eqb-false, eq-eqb}
 use Rattle.event.specs.declared.Range.{Range}
 use Rattle.event.specs.declared.Event.{Event}
-use Rattle.event.specs.declared.Event.the-variants.{End, Persisted, Ordered}
+use Rattle.event.specs.declared.Event.the-variants.{Store, WriteBack, Fence, Begin, Log, End, Persisted, Ordered}
 use Rattle.event.specs.declared.Record.{Record}
 use Rattle.event.specs.declared.Finding.{Finding}
 use Rattle.event.specs.declared.Finding.the-variants.{None, Holds, Empty}
@@ -228,3 +228,32 @@ not-empty h = (
   λ x. let s = some-byte-at h (x .number) (x .passes) in (s .0, record { number = x .number; later = x .later; passes = s .1 }),
   λ y. record { number = y .1 .number; later = y .1 .later; passes = is-implied (storesByte (y .0)) storesSome (stores-some (y .0)) h (y .1 .number) (y .1 .passes) },
 )
+
+-- an event with an empty range
+abbrev pub hasEmpty : Event → Bool
+hasEmpty e = anyRange isEmpty (rangesOf e)
+
+-- an event with none is a store of some byte exactly if it is a store
+store-of-some : (e : Event) → hasEmpty e ≡ false → storesSome e ≡ stores e
+store-of-some (Store a) k = rw (sym (or-false (isEmpty a)) ∙ k)
+store-of-some (WriteBack a) k = refl
+store-of-some Fence k = refl
+store-of-some Begin k = refl
+store-of-some (Log a) k = refl
+store-of-some End k = refl
+store-of-some (Persisted a) k = refl
+store-of-some (Ordered a b) k = refl
+
+store-of-some-at : (h : History) (i : ℕ) → is hasEmpty h i ≡ false → is storesSome h i ≡ is stores h i
+unfolding is
+store-of-some-at [] i k = refl
+store-of-some-at (r ∷ h) i k = go (eqb i (suc (length h))) k (store-of-some-at h i)
+  where
+    go : (c : Bool) → cond c (hasEmpty (r .event)) (is hasEmpty h i) ≡ false → (is hasEmpty h i ≡ false → is storesSome h i ≡ is stores h i) →
+        cond c (storesSome (r .event)) (is storesSome h i) ≡ cond c (stores (r .event)) (is stores h i)
+    go true k rest = store-of-some (r .event) k
+    go false k rest = rest k
+
+-- so after events of which none has an empty range, a transaction is empty exactly if it has no store since its begin
+pub none-empty : (h : History) → ((i : ℕ) → is hasEmpty h i ≡ false) → is storesSome h ≡ is stores h
+none-empty h k = λ j. λ i. store-of-some-at h i (k i) j
