@@ -1,6 +1,6 @@
 /*
- * The judge of persistent-memory traces, the writer of traces, the layout of findings for print, and
- * the mean exposure of traces, for programs in C and C++.
+ * The judge of persistent-memory traces, the writer of traces, the layout of findings for print, the
+ * mean exposure of traces, and the persist interval of a byte, for programs in C and C++.
  * README.md says what a trace and a finding are. `rt staticlib pmjudge_c` builds the library,
  * target/staticlib/libpmjudge_c.a.
  *
@@ -52,7 +52,7 @@ enum pmjudge_refusal {
     PMJUDGE_UNKNOWN_KIND = 6,         /* a kind of event that is not 1 to 8, of finding over 8 */
     PMJUDGE_FIELD_SET = 7,            /* a zero byte, or a field that the kind lacks, is set */
     /* 8 was a range of length 0, up to version 2 */
-    PMJUDGE_PAST_WINDOW = 9,          /* a range past the window */
+    PMJUDGE_PAST_WINDOW = 9,          /* a range past the window, or a byte asked for */
     PMJUDGE_EVENTS_EXHAUSTED = 10,    /* more than 65,535 events; no trace is that long */
     PMJUDGE_NO_TRANSACTION = 11,      /* a log or an end outside a transaction */
     PMJUDGE_TOO_DEEP = 12,            /* a ninth begin inside eight */
@@ -104,7 +104,7 @@ enum pmjudge_finding {
  * the least significant byte first. The area's other bytes stay as they were; all of them do if the
  * trace is refused.
  *
- * A call takes about 100 KB of the caller's stack: 65,520 bytes for findings, 33,024 for tables, and
+ * A call takes about 95 KB of the caller's stack: 65,520 bytes for findings, 24,832 for tables, and
  * little more.
  */
 void pmjudge_judge(const uint8_t *trace, size_t trace_length, uint8_t *area, size_t area_length,
@@ -189,9 +189,37 @@ void pmjudge_pages(const uint8_t *findings, size_t findings_length, uint8_t *are
  * is refused by the first number that applies: 1 to 5; then record by record 6, 7, 9 to 12; then 13;
  * then 17.
  *
- * A call takes about 34 KB of the caller's stack: 33,024 bytes for tables, and little more.
+ * A call takes about 50 KB of the caller's stack: 49,408 bytes for tables, and little more.
  */
 void pmjudge_exposure(const uint8_t *trace, size_t trace_length, uint32_t answer[5]);
+
+/* What a byte's persist interval is. */
+enum pmjudge_interval_state {
+    PMJUDGE_NO_INTERVAL = 0, /* the byte was never stored to */
+    PMJUDGE_OPEN = 1,        /* it is at risk since its last store */
+    PMJUDGE_CLOSED = 2       /* it is durable */
+};
+
+/*
+ * The persist interval of a byte after all events of a trace: where the byte was last stored to, and
+ * which fence made it durable. The interval opens at the last store, and the first fence after the
+ * first write-back of the byte's line after that store closes it.
+ *
+ * answer[0] is the refusal, PMJUDGE_ACCEPTED if there is none, and answer[1] the number of the
+ * record refused: from 1, and 0 if no record is meant. answer[2] is one of enum
+ * pmjudge_interval_state. answer[3] is the epoch of the last store, and answer[4] the epoch that the
+ * closing fence began: how many fences there are up to and with that event. answer[5] to answer[7]
+ * are events, by their record's number from 1: the last store, the first write-back after it, and the
+ * closing fence; answer[8] to answer[10] are the sites of these three. What an answer lacks is 0: an
+ * open interval has no fence, and has no write-back where there is none yet. A trace is refused by
+ * the first number that applies: 1 to 5; then record by record 6, 7, 9 to 12; then 13; and then the
+ * byte by 9 with the record 0, where it is past the trace's window.
+ *
+ * A call takes about 100 KB of the caller's stack: 49,408 bytes for tables, as many for a copy of
+ * them that is asked, and little more.
+ */
+void pmjudge_interval(const uint8_t *trace, size_t trace_length, uint16_t byte,
+                      uint32_t answer[11]);
 
 #ifdef __cplusplus
 }

@@ -1,7 +1,7 @@
 /*
  * The calls of include/pmjudge.h: every refusal by its name, that a refused call changes nothing,
- * closing again, every finding by its name, pages of findings, and mean exposures. Prints what
- * fails and the counts.
+ * closing again, every finding by its name, pages of findings, mean exposures, and persist
+ * intervals. Prints what fails and the counts.
  */
 #include <stdio.h>
 #include <string.h>
@@ -15,6 +15,7 @@ static uint8_t pages[PMJUDGE_MOST_PAGE_BYTES + 16], pages_before[PMJUDGE_MOST_PA
 static uint8_t stored[PMJUDGE_FINDING_SIZE * (PMJUDGE_MOST_FINDINGS + 1)];
 static uint32_t writer[4], writer_before[4], answer[2], verdict[5], paged[3];
 static uint32_t exposed[7], exposed_before[7]; /* an answer with a number before and after it */
+static uint32_t asked[13], asked_before[13];
 static int passed, failed;
 
 static void expect(int line, int holds)
@@ -107,6 +108,29 @@ static int exposure_is(size_t length, enum pmjudge_refusal number, uint32_t reco
 static int unexposed(size_t length, enum pmjudge_refusal number, uint32_t record)
 {
     return exposure_is(length, number, record, 0, 0, 0);
+}
+
+/*
+ * Asks for the persist interval of a byte after the trace of the area's first bytes; whether the
+ * answer is these eleven numbers, and neither the area nor what stands around the answer changed.
+ */
+static int interval_is(size_t length, uint16_t byte, const uint32_t numbers[11])
+{
+    memcpy(area_before, area, sizeof area);
+    memset(asked, 0xa5, sizeof asked);
+    memcpy(asked_before, asked, sizeof asked);
+    pmjudge_interval(area, length, byte, asked + 1);
+    return memcmp(asked + 1, numbers, 11 * sizeof numbers[0]) == 0 && asked[0] == asked_before[0] &&
+           asked[12] == asked_before[12] && memcmp(area, area_before, sizeof area) == 0;
+}
+
+/* Whether a byte asked for is refused by this number at this record. */
+static int unasked(size_t length, uint16_t byte, enum pmjudge_refusal number, uint32_t record)
+{
+    uint32_t numbers[11] = {0};
+    numbers[0] = (uint32_t)number;
+    numbers[1] = record;
+    return interval_is(length, byte, numbers);
 }
 
 static int writer_is(uint32_t lines, uint32_t offset, uint32_t count, uint32_t open)
@@ -211,9 +235,11 @@ static void longest(void)
     EXPECT(unexposed(PMJUDGE_MOST_BYTES, PMJUDGE_NO_BYTE_CLOSED, 0));
     EXPECT(unexposed(PMJUDGE_MOST_BYTES + 1, PMJUDGE_TRACE_TOO_LONG, 0));
     EXPECT(unexposed(PMJUDGE_TRAILER_SIZE - 1, PMJUDGE_TRACE_TOO_SHORT, 0));
+    EXPECT(unasked(PMJUDGE_MOST_BYTES + 1, 0, PMJUDGE_TRACE_TOO_LONG, 0));
+    EXPECT(unasked(PMJUDGE_TRAILER_SIZE - 1, 0, PMJUDGE_TRACE_TOO_SHORT, 0));
 }
 
-/* Refusals of a judge and of a mean exposure, by changed bytes of a trace of a fence in one line. */
+/* Refusals of a judge, a mean exposure and a byte asked for, by changed bytes of a fence's trace. */
 static void changed_bytes(void)
 {
     size_t length = PMJUDGE_RECORD_SIZE + PMJUDGE_TRAILER_SIZE;
@@ -239,6 +265,7 @@ static void changed_bytes(void)
         area[changes[change].at] = changes[change].byte;
         EXPECT(judged(length, 12, changes[change].number, changes[change].record));
         EXPECT(unexposed(length, changes[change].number, changes[change].record));
+        EXPECT(unasked(length, 64, changes[change].number, changes[change].record));
     }
 }
 
@@ -444,6 +471,37 @@ static void longest_exposure(void)
     EXPECT(exposure_is(answer[1], PMJUDGE_ACCEPTED, 0, PMJUDGE_MOST_RECORDS - 2, 0, window));
 }
 
+/* A byte without an interval, open, written back and closed; its neighbour; a byte past the window. */
+static void intervals(void)
+{
+    static const uint32_t none[11] = {0};
+    static const uint32_t open[] = {0, 0, PMJUDGE_OPEN, 1, 0, 2, 0, 0, 7, 0, 0};
+    static const uint32_t written_back[] = {0, 0, PMJUDGE_OPEN, 1, 0, 2, 3, 0, 7, 7, 0};
+    static const uint32_t closed[] = {0, 0, PMJUDGE_CLOSED, 1, 2, 2, 3, 5, 7, 9, 7};
+    static const uint32_t again[] = {0, 0, PMJUDGE_OPEN, 2, 0, 6, 0, 0, 7, 0, 0};
+    start(AREA, 5, 2);
+    event(PMJUDGE_FENCE, 0, 0);
+    end_file(AREA);
+    EXPECT(interval_is(answer[1], 64, none) && interval_is(answer[1], 127, none));
+    EXPECT(unasked(answer[1], 128, PMJUDGE_PAST_WINDOW, 0));
+    EXPECT(unasked(answer[1], 65535, PMJUDGE_PAST_WINDOW, 0));
+    event(PMJUDGE_STORE, 64, 8);
+    end_file(AREA);
+    EXPECT(interval_is(answer[1], 64, open) && interval_is(answer[1], 72, none));
+    event(PMJUDGE_WRITE_BACK, 64, 8);
+    event(PMJUDGE_WRITE_BACK, 64, 64);
+    end_file(AREA);
+    EXPECT(interval_is(answer[1], 71, written_back));
+    event(PMJUDGE_FENCE, 0, 0);
+    end_file(AREA);
+    area[5 + 2 * PMJUDGE_RECORD_SIZE + 10] = 9; /* the write-back's site */
+    EXPECT(interval_is(answer[1], 64, closed));
+    event(PMJUDGE_STORE, 64, 1);
+    end_file(AREA);
+    EXPECT(interval_is(answer[1], 64, again) && interval_is(answer[1], 65, closed));
+    EXPECT(unasked(answer[1], 128, PMJUDGE_PAST_WINDOW, 0));
+}
+
 int main(void)
 {
     size_t at;
@@ -464,6 +522,7 @@ int main(void)
     damaged_findings();
     exposures();
     longest_exposure();
+    intervals();
     printf("%d passed, %d failed\n", passed, failed);
     return failed != 0;
 }

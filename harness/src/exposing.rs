@@ -41,28 +41,33 @@ fn reference_exposure(trace: &[u8], answer: &mut [u32; 5]) {
     };
 }
 
-/// What a call can change: an answer between guards. The arrays stand in this order without gaps.
+/// What a call can change: an answer of so many numbers between guards. The arrays stand in this order
+/// without gaps.
 #[derive(Clone, Debug, PartialEq, Eq)]
 #[repr(C)]
-pub struct Numbers {
+pub struct Numbers<const COUNT: usize> {
     before: [u32; 4],
-    answer: [u32; 5],
+    answer: [u32; COUNT],
     behind: [u32; 4],
 }
 
-impl Numbers {
+impl<const COUNT: usize> Numbers<COUNT> {
     /// The guards are random. The answer is one that no call gives.
-    pub fn new(random: &mut Random) -> Numbers {
+    pub fn new(random: &mut Random) -> Numbers<COUNT> {
         let mut any = || random.bits() as u32;
         Numbers {
             before: std::array::from_fn(|_| any()),
-            answer: [u32::MAX; 5],
+            answer: [u32::MAX; COUNT],
             behind: std::array::from_fn(|_| any()),
         }
     }
 
     /// The numbers after a call, and whether the trace is as it was.
-    pub fn after(&self, call: Expose, trace: &[u8]) -> (Numbers, bool) {
+    pub fn after(
+        &self,
+        call: impl FnOnce(&[u8], &mut [u32; COUNT]),
+        trace: &[u8],
+    ) -> (Numbers<COUNT>, bool) {
         let mut numbers = self.clone();
         let given = black_box(trace.to_vec());
         // The compiler may not take the guards for unchanged.
@@ -70,12 +75,12 @@ impl Numbers {
         (numbers, black_box(given) == trace)
     }
 
-    pub fn answer(&self) -> [u32; 5] {
+    pub fn answer(&self) -> [u32; COUNT] {
         self.answer
     }
 
     /// Whether the guards around the answer are those of other numbers.
-    pub fn same_guards(&self, other: &Numbers) -> bool {
+    pub fn same_guards(&self, other: &Numbers<COUNT>) -> bool {
         (self.before, self.behind) == (other.before, other.behind)
     }
 }
@@ -204,8 +209,8 @@ struct Difference {
     trace: Vec<u8>,
     /// Whether the call left it as it was.
     kept: bool,
-    expected: Numbers,
-    returned: Numbers,
+    expected: Numbers<5>,
+    returned: Numbers<5>,
 }
 
 impl Difference {
@@ -280,7 +285,7 @@ pub mod tests {
     use crate::no_bytes::tests::{back_to_size, beyond_size, hidden, replaced, with_8, with_byte};
     use crate::plain;
     use reference::direct::Run;
-    use reference::{singly, Interval};
+    use reference::{singly, Epochs};
 
     pub const RIGHT: Exposing = Exposing {
         name: "right",
@@ -338,8 +343,8 @@ pub mod tests {
     const WRONG_MEANS: [Exposing; 11] = [
         wrong("counts open bytes", |trace, answer| {
             remade(trace, answer, |run, seen| {
-                let open = seen.iter().filter_map(|byte| match byte.interval {
-                    Interval::Open(since) => Some(run.fences - since),
+                let open = seen.iter().filter_map(|byte| match byte.epochs {
+                    Epochs::Open(since) => Some(run.fences - since),
                     _ => None,
                 });
                 mean(closed(seen).chain(open))
@@ -347,13 +352,13 @@ pub mod tests {
         }),
         wrong("divides by the bytes stored to", |trace, answer| {
             remade(trace, answer, |_, seen| {
-                let stored = |byte: &&Seen| byte.interval != Interval::None;
+                let stored = |byte: &&Seen| byte.epochs != Epochs::None;
                 divided(closed(seen).sum(), seen.iter().filter(stored).count())
             });
         }),
         wrong("counts bytes never stored to", |trace, answer| {
             remade(trace, answer, |_, seen| {
-                let never = seen.iter().filter(|byte| byte.interval == Interval::None);
+                let never = seen.iter().filter(|byte| byte.epochs == Epochs::None);
                 mean(closed(seen).chain(never.map(|_| 0)))
             });
         }),
@@ -371,7 +376,7 @@ pub mod tests {
             remade(trace, answer, |_, seen| {
                 let open = seen
                     .iter()
-                    .filter(|byte| matches!(byte.interval, Interval::Open(_)));
+                    .filter(|byte| matches!(byte.epochs, Epochs::Open(_)));
                 mean(closed(seen).chain(open.filter_map(|byte| byte.earlier)))
             });
         }),
@@ -414,7 +419,7 @@ pub mod tests {
     /// What was seen of a byte of the window up to the end of a trace.
     #[derive(Clone, Copy)]
     struct Seen {
-        interval: Interval,
+        epochs: Epochs,
         /// The difference of the last interval that was closed, of whichever store.
         earlier: Option<usize>,
         /// The sum of the differences of all intervals that were closed.
@@ -431,7 +436,7 @@ pub mod tests {
         let body = trace::open(bytes).expect("an accepted trace");
         let (mut run, _) = singly::fresh::<Run>(body.lines);
         let never = Seen {
-            interval: Interval::None,
+            epochs: Epochs::None,
             earlier: None,
             all: 0,
         };
@@ -452,20 +457,25 @@ pub mod tests {
             }
         }
         for (address, byte) in seen.iter_mut().enumerate() {
-            byte.interval = singly::ask(&run, address).expect("a byte of the window");
+            byte.epochs = epochs(&run, address);
         }
         (Ended { fences }, seen)
+    }
+
+    fn epochs(run: &Run, address: usize) -> Epochs {
+        let interval = singly::ask(run, address).expect("a byte of the window");
+        interval.epochs()
     }
 
     /// Notes the intervals that are closed now and were not before.
     fn see_closed(run: &Run, seen: &mut [Seen]) {
         for (address, byte) in seen.iter_mut().enumerate() {
-            let interval = singly::ask(run, address).expect("a byte of the window");
-            if let (Interval::Closed(from, to), true) = (interval, interval != byte.interval) {
+            let epochs = epochs(run, address);
+            if let (Epochs::Closed(from, to), true) = (epochs, epochs != byte.epochs) {
                 byte.earlier = Some(to - from);
                 byte.all += to - from;
             }
-            byte.interval = interval;
+            byte.epochs = epochs;
         }
     }
 
@@ -503,8 +513,8 @@ pub mod tests {
 
     /// The differences of the bytes whose interval is closed.
     fn closed(seen: &[Seen]) -> impl Iterator<Item = usize> + '_ {
-        seen.iter().filter_map(|byte| match byte.interval {
-            Interval::Closed(from, to) => Some(to - from),
+        seen.iter().filter_map(|byte| match byte.epochs {
+            Epochs::Closed(from, to) => Some(to - from),
             _ => None,
         })
     }
@@ -584,9 +594,9 @@ pub mod tests {
     fn guards_and_traces_are_compared() {
         let before = Numbers::new(&mut Random::new(1));
         for change in [
-            |numbers: &mut Numbers| numbers.before[3] ^= 1,
-            |numbers: &mut Numbers| numbers.behind[0] ^= 1,
-            |numbers: &mut Numbers| numbers.answer[4] ^= 1,
+            |numbers: &mut Numbers<5>| numbers.before[3] ^= 1,
+            |numbers: &mut Numbers<5>| numbers.behind[0] ^= 1,
+            |numbers: &mut Numbers<5>| numbers.answer[4] ^= 1,
         ] {
             let mut changed = before.clone();
             change(&mut changed);

@@ -15,8 +15,8 @@ use std::sync::atomic::{AtomicU64, Ordering::Relaxed};
 fn violation(
     string: &[u8],
     judged: Answer,
-    before: &Numbers,
-    returned: &Numbers,
+    before: &Numbers<5>,
+    returned: &Numbers<5>,
     kept: bool,
 ) -> Option<String> {
     if !kept {

@@ -1,8 +1,10 @@
 //! The proved judge and the proved exposure beside other checkers: compared on random traces, fuzzed,
-//! and timed; the proved writer, compared on random lists of calls; and the proved pages of findings,
-//! compared on random findings areas, fuzzed, and timed.
+//! and timed; the proved intervals, compared on random and on small traces, and fuzzed; the proved
+//! writer, compared on random lists of calls; and the proved pages of findings, compared on random
+//! findings areas, fuzzed, and timed.
 
 mod areas;
+mod asking;
 mod bench;
 mod differential;
 mod exposing;
@@ -10,6 +12,8 @@ mod exposure;
 mod exposure_fuzz;
 mod fuzz;
 mod growth;
+mod interval;
+mod interval_fuzz;
 mod judge;
 mod lists;
 mod mixes;
@@ -26,6 +30,7 @@ mod workloads;
 mod writer;
 mod writing;
 
+use asking::Asking;
 use differential::Judge;
 use exposing::Exposing;
 use printing::Layout;
@@ -37,11 +42,11 @@ const HELP: &str = "\
 harness: the proved judge beside other checkers
 
 usage:
-  harness differential [TRACES [SEED]]   compare the judges and the exposures with the unrelated
-                                         checker on random traces (200,000 of seed 1), the writer
-                                         on as many lists of calls, and the pages of as many
-                                         findings areas
-  harness fuzz [STRINGS [SEED]]          give the proved judge and the proved exposure arbitrary
+  harness differential [TRACES [SEED]]   compare the judges, the exposures and the intervals with
+                                         the unrelated checker on random traces (200,000 of seed 1),
+                                         the intervals on small traces too, the writer on as many
+                                         lists of calls, and the pages of as many findings areas
+  harness fuzz [STRINGS [SEED]]          give the proved judge, exposure and interval arbitrary
                                          strings of bytes (1,000,000 of seed 1), and the proved
                                          pages as many
   harness bench [SVG]                    time the proved judge beside an implementation in plain Rust
@@ -79,6 +84,20 @@ const EXPOSURES: [Exposing; 2] = [
     Exposing {
         name: "plain",
         call: plain::exposure,
+    },
+];
+
+const PROVED_INTERVAL: Asking = Asking {
+    name: "proved",
+    call: interval::interval,
+};
+
+/// The intervals that `differential` compares with the unrelated ones.
+const INTERVALS: [Asking; 2] = [
+    PROVED_INTERVAL,
+    Asking {
+        name: "plain",
+        call: plain::interval,
     },
 ];
 
@@ -158,19 +177,21 @@ fn run(words: &[&str]) -> Result<String, Failure> {
     }
 }
 
-/// The judges and the exposures on so many traces, the writer on as many lists of calls, and the
-/// layouts on as many findings areas.
+/// The judges, the exposures and the intervals on so many traces, the writer on as many lists of calls,
+/// and the layouts on as many findings areas.
 fn compared(traces: u64, seed: u64) -> Result<String, String> {
     let text = differential::command(&JUDGES, traces, seed)?;
     let text = text + &exposing::command(&EXPOSURES, traces, seed)?;
+    let text = text + &asking::command(&INTERVALS, traces, seed)?;
     let text = text + &writing::command(&WRITER, traces, seed)?;
     Ok(text + &printing::command(&LAYOUTS, traces, seed)?)
 }
 
-/// The judge and the exposure on so many strings, and the pages on as many.
+/// The judge, the exposure and the interval on so many strings, and the pages on as many.
 fn fuzzed(strings: u64, seed: u64) -> Result<String, String> {
     let text = fuzz::command(&PROVED, strings, seed)?;
     let text = text + &exposure_fuzz::command(&PROVED, &PROVED_EXPOSURE, strings, seed)?;
+    let text = text + &interval_fuzz::command(&PROVED, &PROVED_INTERVAL, strings, seed)?;
     Ok(text + &page_fuzz::command(&PROVED_PAGES, strings, seed)?)
 }
 

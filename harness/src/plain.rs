@@ -3,6 +3,7 @@
 //! A first pass over the records checks every limit, so that a refused trace writes nothing. A second
 //! one judges, with tables over the window's bytes and lines.
 
+use crate::interval::COUNT;
 use crate::judge::Answer;
 use std::ops::Range;
 
@@ -299,6 +300,67 @@ fn mean(records: &Records) -> [u32; 5] {
     }
 }
 
+/// The persist interval of a byte after a trace, in the numbers that `interval::COUNT` has.
+pub fn interval(trace: &[u8], byte: u16, answer: &mut [u32; COUNT]) {
+    *answer = [0; COUNT];
+    let byte = usize::from(byte);
+    // A trace is longer than its findings, so it stands for an area of enough room.
+    match open(trace, trace) {
+        Ok(records) if byte < records.lines * LINE => {
+            answer[2..].copy_from_slice(&numbers_of_interval(&records, byte));
+        }
+        Ok(_) => answer[0] = 9,
+        Err(Answer::Refused { number, record }) => [answer[0], answer[1]] = [number, record],
+        Err(accepted) => panic!("opening a trace answered {accepted:?}"),
+    }
+}
+
+/// State, epochs, events and sites, from one pass over the records.
+fn numbers_of_interval(records: &Records, byte: usize) -> [u32; 9] {
+    let none = Named::default();
+    let (mut store, mut back, mut fence) = (none, none, none);
+    let mut epoch = 0;
+    for (record, event) in records.bytes.chunks_exact(RECORD).zip(1..) {
+        let kind = read_event(record);
+        epoch += u32::from(kind == Event::Fence);
+        let named = Named {
+            event,
+            epoch,
+            site: u32::from(u16_at(record, 10)),
+        };
+        match kind {
+            Event::Store(a) if a.contains(&byte) => (store, back, fence) = (named, none, none),
+            // Before the first store there is nothing to write back, and after it the first counts.
+            _ if store.event == 0 => {}
+            Event::WriteBack(a) if back.event == 0 && lines_of(&a).contains(&(byte / LINE)) => {
+                back = named;
+            }
+            Event::Fence if back.event != 0 && fence.event == 0 => fence = named,
+            _ => {}
+        }
+    }
+    let state = u32::from(store.event != 0) + u32::from(fence.event != 0);
+    [
+        state,
+        store.epoch,
+        fence.epoch,
+        store.event,
+        back.event,
+        fence.event,
+        store.site,
+        back.site,
+        fence.site,
+    ]
+}
+
+/// An event that an interval names, with the count of fences by it; 0 for none.
+#[derive(Clone, Copy, Default)]
+struct Named {
+    event: u32,
+    epoch: u32,
+    site: u32,
+}
+
 /// The place of the first entry that fits. Whole lines are passed over without a branch for each entry, so
 /// that this is vectorised.
 fn first(entries: &[u16], fits: impl Fn(u16) -> bool) -> Option<usize> {
@@ -499,6 +561,7 @@ impl Run {
 #[cfg(test)]
 pub mod tests {
     use super::*;
+    use crate::asking::{reference_interval, some_byte};
     use crate::differential::answer_of;
     use crate::no_bytes;
     use reference::area_after;
@@ -774,6 +837,24 @@ pub mod tests {
             given += u32::from(answer[0] == 0);
         }
         assert!((3_000..17_000).contains(&given), "{given} exposures");
+    }
+
+    #[test]
+    fn intervals_are_those_of_the_reference() {
+        let mut random = Random::new(14);
+        let mut states = [0; 3];
+        for _ in 0..20_000 {
+            let trace = random_trace(&mut random);
+            let byte = some_byte(&mut random, &trace);
+            let [mut answer, mut expected] = [[u32::MAX; COUNT]; 2];
+            interval(&trace, byte, &mut answer);
+            reference_interval(&trace, byte, &mut expected);
+            assert_eq!(answer, expected, "{byte}: {trace:?}");
+            if answer[0] == 0 {
+                states[answer[2] as usize] += 1;
+            }
+        }
+        assert!(states.iter().all(|&count| count > 500), "{states:?}");
     }
 
     #[test]

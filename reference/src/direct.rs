@@ -3,7 +3,8 @@
 //! Each line keeps the last store of each of its bytes, with its epoch, and its closings. A closing
 //! is a write-back of the line and the first fence after it: from that fence on, every piece of the
 //! line older than that write-back survives in every image, and the persist intervals of its bytes
-//! are closed.
+//! are closed. Of several write-backs before one fence the last is the closing's; a persist interval
+//! names the first one after the byte's last store, which is found among all of the line.
 //!
 //! - A byte may be lost at the present moment if its last store is younger than the write-back of
 //!   the line's latest closing.
@@ -17,7 +18,7 @@
 use crate::event::{Event, Range, Record, LINE, MAX_DEPTH, MAX_EVENTS, MAX_WINDOW, WORD};
 use crate::exposure::Exposure;
 use crate::finding::{Finding, Kind};
-use crate::interval::Interval;
+use crate::interval::{Epochs, Interval};
 use crate::outcome::Totals;
 use crate::Way;
 
@@ -41,8 +42,8 @@ struct Line {
     opened: [usize; LINE],
     /// The last store of the line, 0 for none.
     newest: usize,
-    /// The last write-back of the line, 0 for none.
-    written_back: usize,
+    /// The write-backs of the line, oldest first.
+    write_backs: Vec<usize>,
     /// Oldest first; at most one for each fence.
     closings: Vec<Closing>,
 }
@@ -53,9 +54,20 @@ impl Line {
             last: [0; LINE],
             opened: [0; LINE],
             newest: 0,
-            written_back: 0,
+            write_backs: Vec::new(),
             closings: Vec::new(),
         }
+    }
+
+    /// The last write-back of the line, 0 for none.
+    fn written_back(&self) -> usize {
+        self.write_backs.last().copied().unwrap_or(0)
+    }
+
+    /// The first write-back of the line after this store, 0 for none.
+    fn write_back_after(&self, store: usize) -> usize {
+        let older = self.write_backs.partition_point(|&event| event < store);
+        self.write_backs.get(older).copied().unwrap_or(0)
     }
 
     /// Pieces older than this event are durable now.
@@ -81,9 +93,32 @@ impl Line {
         if store == 0 {
             return Interval::None;
         }
+        let write_back = self.write_back_after(store);
         match self.closing_for(store) {
-            Some(closing) => Interval::Closed(opened, closing.epoch),
-            None => Interval::Open(opened),
+            Some(closing) => Interval::Closed {
+                from: opened,
+                to: closing.epoch,
+                store,
+                write_back,
+                fence: closing.fence,
+            },
+            None => Interval::Open {
+                since: opened,
+                store,
+                write_back,
+            },
+        }
+    }
+
+    /// Its epochs alone.
+    fn epochs(&self, byte: usize) -> Epochs {
+        let (store, opened) = (self.last[byte], self.opened[byte]);
+        if store == 0 {
+            return Epochs::None;
+        }
+        match self.closing_for(store) {
+            Some(closing) => Epochs::Closed(opened, closing.epoch),
+            None => Epochs::Open(opened),
         }
     }
 
@@ -130,7 +165,7 @@ impl Line {
     fn warning(&self) -> Option<Kind> {
         if self.newest == 0 {
             Some(Kind::Clean)
-        } else if self.newest < self.written_back {
+        } else if self.newest < self.written_back() {
             Some(Kind::WrittenTwice)
         } else {
             None
@@ -198,6 +233,10 @@ impl Way for Run {
         self.lines[byte / LINE].interval(byte % LINE)
     }
 
+    fn epochs(&self, byte: usize) -> Epochs {
+        self.lines[byte / LINE].epochs(byte % LINE)
+    }
+
     fn close(&self) -> Result<Totals, u8> {
         if self.depth > 0 {
             return Err(13);
@@ -263,7 +302,7 @@ impl Run {
             if let (Kind::None, Some(kind)) = (finding.kind, self.lines[line].warning()) {
                 finding = Finding::naming(kind, line * LINE);
             }
-            self.lines[line].written_back = self.events;
+            self.lines[line].write_backs.push(self.events);
             self.pending.push(line);
         }
         finding
@@ -274,7 +313,7 @@ impl Run {
         for line in std::mem::take(&mut self.pending) {
             let line = &mut self.lines[line];
             let closing = Closing {
-                write_back: line.written_back,
+                write_back: line.written_back(),
                 fence: self.events,
                 epoch: self.fences,
             };

@@ -11,7 +11,7 @@
 use crate::event::{Event, Range, Record, LINE, MAX_DEPTH, MAX_EVENTS, WORD};
 use crate::exposure::Exposure;
 use crate::finding::{Finding, Kind};
-use crate::interval::Interval;
+use crate::interval::{Epochs, Interval};
 use crate::outcome::Totals;
 use crate::{trace, Way};
 
@@ -140,10 +140,20 @@ impl Way for History {
         let Some(store) = self.last_store(byte, self.records.len() + 1) else {
             return Interval::None;
         };
+        let of_line = |event| is_write_back_of(event, byte / LINE);
+        let write_back = self.first_after(store, of_line);
+        let fence = write_back.and_then(|number| self.first_after(number, is_fence));
+        self.interval_of(store, write_back.unwrap_or(0), fence)
+    }
+
+    fn epochs(&self, byte: usize) -> Epochs {
+        let Some(store) = self.last_store(byte, self.records.len() + 1) else {
+            return Epochs::None;
+        };
         let opened = self.epoch(store);
         match self.closing_fence(byte / LINE, store) {
-            Some(fence) => Interval::Closed(opened, self.epoch(fence)),
-            None => Interval::Open(opened),
+            Some(fence) => Epochs::Closed(opened, self.epoch(fence)),
+            None => Epochs::Open(opened),
         }
     }
 
@@ -162,14 +172,14 @@ impl Way for History {
         })
     }
 
-    /// By the words of the request, from the persist interval of each byte of the window. If that
-    /// takes few images, the intervals are read off them too, and have to be the same.
+    /// By the words of the request, from the epochs of each byte of the window. If that takes few
+    /// images, the intervals are read off them too, and have to be the same.
     fn exposure(&self) -> Result<Exposure, u8> {
         if self.effort_of_intervals() <= FEW_IMAGES {
             self.check_intervals();
         }
-        let intervals = (0..self.window()).map(|byte| self.interval(byte));
-        let exposures: Vec<usize> = intervals.filter_map(exposure_of).collect();
+        let epochs = (0..self.window()).map(|byte| self.epochs(byte));
+        let exposures: Vec<usize> = epochs.filter_map(exposure_of).collect();
         let (divisor, sum) = (exposures.len(), exposures.iter().sum::<usize>());
         if divisor == 0 {
             return Err(17);
@@ -200,14 +210,40 @@ impl History {
 
     /// The count of fences by event `n`: the epoch of a store, or the epoch that a fence begins.
     fn epoch(&self, n: usize) -> usize {
-        self.up_to(n).filter(|&(_, e)| e == Event::Fence).count()
+        self.up_to(n).filter(|&(_, e)| is_fence(e)).count()
+    }
+
+    /// The first event after event `n` that fits.
+    fn first_after(&self, n: usize, fits: impl Fn(Event) -> bool) -> Option<usize> {
+        let mut later = self.between(n, self.records.len());
+        let first = later.find(|&(_, event)| fits(event));
+        first.map(|(number, _)| number)
+    }
+
+    /// The interval of a byte with these events; the write-back is 0 if there is none.
+    fn interval_of(&self, store: usize, write_back: usize, fence: Option<usize>) -> Interval {
+        let opened = self.epoch(store);
+        match fence {
+            Some(fence) => Interval::Closed {
+                from: opened,
+                to: self.epoch(fence),
+                store,
+                write_back,
+                fence,
+            },
+            None => Interval::Open {
+                since: opened,
+                store,
+                write_back,
+            },
+        }
     }
 
     /// The first fence after the first write-back, after the store, of the line.
     fn closing_fence(&self, line: usize, store: usize) -> Option<usize> {
         let mut later = self.between(store, self.records.len());
         later.find(|&(_, event)| is_write_back_of(event, line))?;
-        let fence = later.find(|&(_, event)| event == Event::Fence);
+        let fence = later.find(|&(_, event)| is_fence(event));
         fence.map(|(number, _)| number)
     }
 
@@ -313,8 +349,9 @@ impl History {
 
     // Persist intervals by crash images.
 
-    /// Each byte with a last store, and its persist interval: it is closed from the first fence on at
-    /// whose moment no allowed image loses the byte.
+    /// Each byte with a last store, and its persist interval. The fence is the first one at whose
+    /// moment no allowed image loses the byte. The write-back is the first event such that none would
+    /// lose it if a fence came right after that event.
     fn intervals_by_images(&self) -> Vec<(usize, Interval)> {
         let stored = self.stored(self.records.len() + 1, 0..self.window());
         let of_line = |bytes: &Vec<Stored>| self.intervals_of_line(bytes);
@@ -323,25 +360,46 @@ impl History {
 
     /// The same for the bytes of one line.
     fn intervals_of_line(&self, bytes: &[Stored]) -> Vec<(usize, Interval)> {
-        let opened = bytes.iter().map(|byte| self.epoch(byte.store));
-        let mut intervals: Vec<Interval> = opened.map(Interval::Open).collect();
+        let write_backs = self.write_backs_by_images(bytes);
+        let fences = self.fences_by_images(bytes);
+        let places = bytes.iter().enumerate();
+        let interval = |(place, byte): (usize, &Stored)| {
+            let write_back = write_backs[place].unwrap_or(0);
+            let interval = self.interval_of(byte.store, write_back, fences[place]);
+            (byte.address, interval)
+        };
+        places.map(interval).collect()
+    }
+
+    /// For each of the bytes, all on one line, the first event such that no image would lose it if a
+    /// fence came right after that event.
+    fn write_backs_by_images(&self, bytes: &[Stored]) -> Vec<Option<usize>> {
+        let events = (1..=self.records.len()).map(|number| {
+            let fenced = self.fenced_after(number);
+            (number, fenced.lost_at(number + 1, bytes))
+        });
+        first_kept(bytes.len(), events)
+    }
+
+    /// For each of the bytes, all on one line, the first fence at whose moment no image loses it.
+    fn fences_by_images(&self, bytes: &[Stored]) -> Vec<Option<usize>> {
         let events = self.up_to(self.records.len());
-        let fences = events.filter(|&(_, event)| event == Event::Fence);
-        for ((moment, _), epoch) in fences.zip(1..) {
-            let lost = self.lost_at(moment, bytes);
-            for (place, interval) in intervals.iter_mut().enumerate() {
-                let is_lost = lost >> place & 1 == 1;
-                match *interval {
-                    Interval::Open(opened) if !is_lost => {
-                        *interval = Interval::Closed(opened, epoch);
-                    }
-                    Interval::Closed(..) => assert!(!is_lost, "moment {moment}: lost again"),
-                    _ => {}
-                }
-            }
+        let fences = events.filter(|&(_, event)| is_fence(event));
+        let lost = fences.map(|(number, _)| (number, self.lost_at(number, bytes)));
+        first_kept(bytes.len(), lost)
+    }
+
+    /// The events 1 to `moment`, and a fence.
+    fn fenced_after(&self, moment: usize) -> History {
+        let fence = Record {
+            event: Event::Fence,
+            site: 0,
+        };
+        History {
+            lines: self.lines,
+            records: [&self.records[..moment], &[fence]].concat(),
+            findings: Vec::new(),
         }
-        let addresses = bytes.iter().map(|byte| byte.address);
-        addresses.zip(intervals).collect()
     }
 
     /// Those of the bytes, all on one line, that an image of the moment loses.
@@ -372,8 +430,10 @@ impl History {
             a.lines().map(of_line)
         });
         let images = images.fold(0, u64::saturating_add);
-        let fences = self.epoch(self.records.len()) as u64;
-        images.saturating_mul(fences).saturating_mul(LINE as u64)
+        // Those of each fence, and those of a fence after each event.
+        let moments = self.epoch(self.records.len()) + self.records.len();
+        let bytes = moments as u64 * LINE as u64;
+        images.saturating_mul(bytes)
     }
 
     // Crash images.
@@ -389,7 +449,7 @@ impl History {
     fn must_survive(&self, line: usize, store: usize, moment: usize) -> bool {
         let mut later = self.between(store, moment);
         later.any(|(_, event)| is_write_back_of(event, line))
-            && later.any(|(_, event)| event == Event::Fence)
+            && later.any(|(_, event)| is_fence(event))
     }
 
     /// How many pieces of the line may survive whole at the moment.
@@ -651,11 +711,27 @@ impl History {
 }
 
 /// Closing epoch less opening epoch, if the interval is closed.
-fn exposure_of(interval: Interval) -> Option<usize> {
-    match interval {
-        Interval::Closed(opened, closed) => Some(closed - opened),
+fn exposure_of(epochs: Epochs) -> Option<usize> {
+    match epochs {
+        Epochs::Closed(opened, closed) => Some(closed - opened),
         _ => None,
     }
+}
+
+/// For each place the first event that does not lose it, from the places that each one loses. An
+/// event after that one must not lose it again.
+fn first_kept(places: usize, events: impl Iterator<Item = (usize, Places)>) -> Vec<Option<usize>> {
+    let mut firsts = vec![None; places];
+    for (number, lost) in events {
+        for (place, first) in firsts.iter_mut().enumerate() {
+            let is_lost = lost >> place & 1 == 1;
+            assert!(first.is_none() || !is_lost, "event {number}: lost again");
+            if !is_lost {
+                first.get_or_insert(number);
+            }
+        }
+    }
+    firsts
 }
 
 /// The bytes of a line.
@@ -691,6 +767,10 @@ fn mark_partners(rows: &mut [Vec<Places>], list: usize, lost: Places, mut kept: 
     }
 }
 
+fn is_fence(event: Event) -> bool {
+    event == Event::Fence
+}
+
 fn is_store_to(event: Event, line: usize) -> bool {
     matches!(event, Event::Store(a) if a.touches(line))
 }
@@ -704,8 +784,9 @@ pub const SMALL_RECORDS: usize = 128;
 /// The most bytes looked at, over all images of all assertions, as a matter of course.
 pub const SMALL_EFFORT: u64 = 100_000_000;
 
-/// The most bytes looked at, over all images of all fences, when an exposure is asked.
-const FEW_IMAGES: u64 = 100_000;
+/// The most bytes looked at, over all images of all fences and of a fence after each event, when an
+/// exposure is asked.
+const FEW_IMAGES: u64 = 600_000;
 
 /// Whether enumerating the images of the trace takes a fraction of a second: at most
 /// [`SMALL_RECORDS`] records, and at most [`SMALL_EFFORT`] bytes looked at. In each image these are
@@ -925,33 +1006,61 @@ mod tests {
         history(events).intervals_by_images()
     }
 
+    fn open(since: usize, [store, write_back]: [usize; 2]) -> Interval {
+        Interval::Open {
+            since,
+            store,
+            write_back,
+        }
+    }
+
+    fn closed(from: usize, to: usize, [store, write_back, fence]: [usize; 3]) -> Interval {
+        Interval::Closed {
+            from,
+            to,
+            store,
+            write_back,
+            fence,
+        }
+    }
+
     #[test]
     fn intervals_of_bytes_by_images() {
-        let (open, closed) = (Interval::Open, Interval::Closed);
         assert_eq!(intervals_by_images("write-back 0/1; fence"), []);
         let stored = intervals_by_images("fence; store 63/2; write-back 0/1");
-        assert_eq!(stored, [(63, open(1)), (64, open(1))]);
+        assert_eq!(stored, [(63, open(1, [2, 3])), (64, open(1, [2, 0]))]);
         let fenced = intervals_by_images("fence; store 63/2; write-back 0/1; fence; fence");
-        assert_eq!(fenced, [(63, closed(1, 2)), (64, open(1))]);
-        let again = "store 0/2; write-back 0/1; fence; store 1/2; fence; write-back 0/1; fence";
-        let again = intervals_by_images(again);
         assert_eq!(
-            again,
-            [(0, closed(0, 1)), (1, closed(1, 3)), (2, closed(1, 3))]
+            fenced,
+            [(63, closed(1, 2, [2, 3, 4])), (64, open(1, [2, 0]))]
+        );
+        let again = "store 0/2; write-back 0/1; fence; store 1/2; fence; write-back 0/1; fence";
+        let (first, second) = (closed(0, 1, [1, 2, 3]), closed(1, 3, [4, 6, 7]));
+        assert_eq!(
+            intervals_by_images(again),
+            [(0, first), (1, second), (2, second)]
         );
         let between = intervals_by_images("store 0/2; write-back 0/1; store 1/1; fence");
-        assert_eq!(between, [(0, closed(0, 1)), (1, open(0))]);
+        assert_eq!(
+            between,
+            [(0, closed(0, 1, [1, 2, 4])), (1, open(0, [3, 0]))]
+        );
+        let twice = "store 0/1; write-back 1/1; write-back 0/1; begin; fence; fence; end";
+        assert_eq!(intervals_by_images(twice), [(0, closed(0, 1, [1, 2, 5]))]);
         assert_eq!(intervals_by_images("store 0/0; store 64/0; fence"), []);
         let no_bytes =
             "store 0/1; write-back 0/0; fence; store 0/0; write-back 0/1; store 0/0; fence";
-        assert_eq!(intervals_by_images(no_bytes), [(0, closed(0, 2))]);
+        assert_eq!(
+            intervals_by_images(no_bytes),
+            [(0, closed(0, 2, [1, 5, 7]))]
+        );
     }
 
     /// Also of lists with too many images for every exposure that is asked.
     #[test]
     fn intervals_by_images_of_random_lists() {
         let mut random = Random::new(32);
-        let (mut intervals, mut closed) = (0, 0);
+        let (mut intervals, mut closed, mut waiting) = (0, 0, 0);
         for _ in 0..1_000 {
             let shape = random::small_shape(&mut random);
             let records = random::events(&mut random, &shape);
@@ -963,11 +1072,62 @@ mod tests {
             for (byte, interval) in history.intervals_by_images() {
                 assert_eq!(interval, history.interval(byte), "{:?}", history.records);
                 intervals += 1;
-                closed += usize::from(matches!(interval, Interval::Closed(..)));
+                closed += usize::from(matches!(interval, Interval::Closed { .. }));
+                let [_, write_back, fence] = interval.events();
+                waiting += usize::from(write_back > 0 && fence == 0);
             }
         }
-        println!("{intervals} intervals by images, {closed} of them closed");
+        println!(
+            "{intervals} intervals by images, {closed} of them closed, \
+             {waiting} written back and not fenced"
+        );
         assert!(intervals > 5_000 && closed > 1_000, "{intervals} {closed}");
+        assert!(waiting > 300, "{waiting}");
+    }
+
+    /// Lists of up to 65,535 events, not given one by one.
+    #[test]
+    fn intervals_of_long_lists() {
+        let (first, line) = (Range::new(0, 1), Range::new(0, 64));
+        let (store, written) = (Event::Store(first), Event::WriteBack(line));
+        let stored = [Event::Store(line), written, Event::Fence];
+        let fences = |count| vec![Event::Fence; count];
+        for (events, [byte, other]) in [
+            (
+                [&fences(32_766), &stored[..], &[store]].concat(),
+                [
+                    open(32_767, [32_770, 0]),
+                    closed(32_766, 32_767, [32_767, 32_768, 32_769]),
+                ],
+            ),
+            (
+                [&fences(65_532), &stored[..]].concat(),
+                [closed(65_532, 65_533, [65_533, 65_534, 65_535]); 2],
+            ),
+            (
+                [&stored[..1], &fences(65_532), &stored[1..]].concat(),
+                [closed(0, 65_533, [1, 65_534, 65_535]); 2],
+            ),
+            (
+                [&fences(65_533), &stored[..2]].concat(),
+                [open(65_533, [65_534, 65_535]); 2],
+            ),
+            (
+                [&stored[..], &fences(65_531), &[store]].concat(),
+                [open(65_532, [65_535, 0]), closed(0, 1, [1, 2, 3])],
+            ),
+        ] {
+            assert!(events.len() <= MAX_EVENTS);
+            let record = |&event| Record { event, site: 0 };
+            let history = History {
+                lines: 1,
+                records: events.iter().map(record).collect(),
+                findings: Vec::new(),
+            };
+            assert_eq!([history.interval(0), history.interval(63)], [byte, other]);
+            let epochs = [history.epochs(0), history.epochs(63)];
+            assert_eq!(epochs, [byte.epochs(), other.epochs()]);
+        }
     }
 
     /// A list of 65,535 events, not given one by one.

@@ -8,9 +8,10 @@
 //! - [`judge`] goes from event to event with what it knows of each line (module [`direct`]).
 //!
 //! Both read the trace file with the same code (module [`trace`]). Events can also be given singly,
-//! and the persist interval of a byte or the mean exposure of the run asked for (module
-//! [`singly`]). Module [`writer`] writes a trace file into an area, event by event. Module [`calls`]
-//! makes a file of calls on single events and of the writer, and the text of their answers.
+//! and the persist interval of a byte, with the events that it comes from, or the mean exposure of
+//! the run asked for (module [`singly`]); both can be asked of a whole trace too. Module [`writer`]
+//! writes a trace file into an area, event by event. Module [`calls`] makes a file of calls on single
+//! events and of the writer, and the text of their answers.
 //!
 //! Module [`pages`] lays the findings of a findings area out for print, module [`read_back`] checks
 //! such pages, and module [`page_calls`] makes a file of calls of the pages and the text of their
@@ -41,7 +42,7 @@ pub mod writer;
 pub use event::{Event, Range, Record};
 pub use exposure::Exposure;
 pub use finding::{Finding, Kind};
-pub use interval::Interval;
+pub use interval::{Epochs, Interval};
 pub use outcome::{area_after, findings_bytes, listing, Outcome, Refusal, Report, Totals};
 
 /// A way to judge events one after another, from a fresh window.
@@ -57,6 +58,9 @@ pub trait Way {
 
     /// The persist interval of a byte of the window.
     fn interval(&self, byte: usize) -> Interval;
+
+    /// The two epochs of that interval alone, worked out without its events.
+    fn epochs(&self, byte: usize) -> Epochs;
 
     /// Closes the run. Refusal 13.
     fn close(&self) -> Result<Totals, u8>;
@@ -112,6 +116,36 @@ pub fn exposure_with<W: Way>(trace: &[u8]) -> Result<Exposure, Refusal> {
     let at_0 = |number| Refusal { number, record: 0 };
     let body = trace::open(trace).map_err(at_0)?;
     Whole::<W>::of(&body)?.way.exposure().map_err(at_0)
+}
+
+/// The persist interval of a byte after all events of a trace, with the sites of the events named,
+/// the direct way. The trace is refused as the judge refuses it, 14 aside; 9 at 0 for a byte past the
+/// window comes after that.
+pub fn interval(trace: &[u8], byte: usize) -> Result<interval::OfTrace, Refusal> {
+    interval_with::<direct::Run>(trace, byte)
+}
+
+/// The same from the list of events, which is judged by enumerating crash images: see
+/// [`images::small_enough`].
+pub fn interval_by_images(trace: &[u8], byte: usize) -> Result<interval::OfTrace, Refusal> {
+    interval_with::<images::History>(trace, byte)
+}
+
+/// The persist interval of a byte of a trace in the given way.
+pub fn interval_with<W: Way>(trace: &[u8], byte: usize) -> Result<interval::OfTrace, Refusal> {
+    let at_0 = |number| Refusal { number, record: 0 };
+    let body = trace::open(trace).map_err(at_0)?;
+    let whole = Whole::<W>::of(&body)?;
+    let interval = singly::ask(&whole.way, byte)?;
+    let records: Vec<_> = body.record_bytes().collect();
+    let site = |event: usize| match event {
+        0 => 0,
+        _ => trace::site_of(records[event - 1]),
+    };
+    Ok(interval::OfTrace {
+        interval,
+        sites: interval.events().map(site),
+    })
 }
 
 /// The run after all events of a trace, with their findings and the totals at its closing.

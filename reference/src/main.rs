@@ -3,10 +3,11 @@
 use reference::calls::Calls;
 use reference::page_calls::PageCalls;
 use reference::pages::{self, Refused};
-use reference::script::Script;
+use reference::script::{self, Script};
 use reference::trace::{MAX_TRACE, RECORD};
 use reference::{check, corpus, exposure, exposure_by_images, findings_bytes, images};
-use reference::{judge, judge_by_images, listing, Exposure, Outcome, Refusal};
+use reference::{interval, interval_by_images, judge, judge_by_images, listing};
+use reference::{Exposure, Outcome, Refusal};
 use std::fs::File;
 use std::io::{self, ErrorKind, Read, Write};
 use std::path::Path;
@@ -31,15 +32,20 @@ usage:
   reference exposure [--images] TRACE
                                      print the mean exposure of a trace as `exposure Q R D`, its
                                      quotient, remainder and divisor, or `refused N at R`
+  reference interval [--images] BYTE TRACE
+                                     print the persist interval of a byte after a trace, with its
+                                     epochs and the events that it comes from, and the site of each
+                                     of these, or `refused N at R`
   reference --help                   print this text
 
-SCRIPT, FINDINGS and the TRACE of `judge`, `findings` and `exposure` may be `-` for standard input.
+SCRIPT, FINDINGS and the TRACE of `judge`, `findings`, `exposure` and `interval` may be `-` for
+standard input. BYTE is a number from 0 to 65535.
 `--images` enumerates crash images, for small traces.
 Exit status: 0 done, 1 a script differs, 2 bad usage or files.
 ";
 
 /// The commands that need arguments.
-const COMMANDS: [&str; 9] = [
+const COMMANDS: [&str; 10] = [
     "write",
     "judge",
     "check",
@@ -49,6 +55,7 @@ const COMMANDS: [&str; 9] = [
     "pages",
     "page-calls",
     "exposure",
+    "interval",
 ];
 
 /// A line for standard error; the exit status is 2.
@@ -90,6 +97,8 @@ fn run(words: &[&str]) -> Result<ExitCode, Failure> {
         ["page-calls", calls, answers] => page_calls_command(calls, answers),
         ["exposure", "--images", trace] => exposure_command(trace, true),
         ["exposure", trace] if *trace != "--images" => exposure_command(trace, false),
+        ["interval", "--images", byte, trace] => interval_command(byte, trace, true),
+        ["interval", byte, trace] if *byte != "--images" => interval_command(byte, trace, false),
         [] => Err("reference: a command is missing; see `reference --help`".to_string()),
         [command, ..] if COMMANDS.contains(command) => Err(format!(
             "reference {command}: wrong arguments; see `reference --help`"
@@ -141,9 +150,29 @@ fn exposure_command(name: &str, by_images: bool) -> Result<ExitCode, Failure> {
             remainder,
             divisor,
         }) => format!("exposure {quotient} {remainder} {divisor}\n"),
-        Err(Refusal { number, record }) => format!("refused {number} at {record}\n"),
+        Err(refusal) => refusal_line(refusal),
     };
     print(line.as_bytes())
+}
+
+fn interval_command(byte: &str, name: &str, by_images: bool) -> Result<ExitCode, Failure> {
+    let byte = script::number(byte).map_err(|mistake| format!("reference interval: {mistake}"))?;
+    let (byte, trace) = (usize::from(byte), read_trace(name)?);
+    let answer = if by_images {
+        few_images(name, &trace)?;
+        interval_by_images(&trace, byte)
+    } else {
+        interval(&trace, byte)
+    };
+    let text = match answer {
+        Ok(interval) => interval.text(byte),
+        Err(refusal) => refusal_line(refusal),
+    };
+    print(text.as_bytes())
+}
+
+fn refusal_line(Refusal { number, record }: Refusal) -> String {
+    format!("refused {number} at {record}\n")
 }
 
 fn check_command(names: &[&str]) -> Result<ExitCode, Failure> {

@@ -151,11 +151,12 @@ impl<W: Way> Beside<W> {
         }
     }
 
-    /// Both runs have the same persist interval of every byte and the same mean exposure, and their
-    /// totals differ by the events taken out.
+    /// Both runs have the same persist interval of every byte, but for the event numbers, and the
+    /// same mean exposure, and their totals differ by the events taken out.
     pub fn compare(&self) {
+        let number = |number: usize| usize::from(self.numbers[number]);
         for byte in 0..self.every.window() {
-            let interval = self.every.interval(byte);
+            let interval = self.every.interval(byte).renumbered(number);
             assert_eq!(interval, self.others.interval(byte), "byte {byte}");
         }
         assert_eq!(self.every.exposure(), self.others.exposure());

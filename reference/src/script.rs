@@ -293,7 +293,8 @@ fn range(word: &str) -> Result<Range, String> {
     Ok(Range::new(number(address)?, number(length)?))
 }
 
-pub(crate) fn number(word: &str) -> Result<u16, String> {
+/// A number of digits alone, of 16 bits.
+pub fn number(word: &str) -> Result<u16, String> {
     let digits = !word.is_empty() && word.bytes().all(|byte| byte.is_ascii_digit());
     let value = if digits { word.parse().ok() } else { None };
     value.ok_or_else(|| format!("`{word}` is not a number from 0 to 65535"))

@@ -74,7 +74,7 @@ pub fn read(bytes: &[u8; RECORD]) -> Result<Record, u8> {
     let kind = bytes[0];
     let a = Range::new(u16_at(bytes, 2), u16_at(bytes, 4));
     let b = Range::new(u16_at(bytes, 6), u16_at(bytes, 8));
-    let site = u16_at(bytes, 10);
+    let site = site_of(bytes);
     let event = match kind {
         Event::STORE => Event::Store(a),
         Event::WRITE_BACK => Event::WriteBack(a),
@@ -93,6 +93,11 @@ pub fn read(bytes: &[u8; RECORD]) -> Result<Record, u8> {
         return Err(7);
     }
     Ok(Record { event, site })
+}
+
+/// The site of a record, of whichever kind.
+pub fn site_of(bytes: &[u8; RECORD]) -> u16 {
+    u16_at(bytes, 10)
 }
 
 /// The twelve bytes of a record. Limits are not checked.

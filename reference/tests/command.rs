@@ -224,6 +224,58 @@ fn exposure() {
 }
 
 #[test]
+fn interval() {
+    let script = "lines 2\nfence\nstore 64/8 site 5\nwrite-back 64/1 site 70\nwrite-back 64/1\n";
+    let closed = format!("{script}fence site 65535\nfence\n");
+    let stored = "lines 2\nstore 0/8 site 0\nwrite-back 64/8\nfence\n";
+    let left_open = format!("{closed}begin\n");
+    let named = "event 2 site 5\nevent 3 site 70\n";
+    let [open, fenced] = [
+        format!("byte 64 open 1 store 2 write-back 3\n{named}"),
+        format!("byte 71 closed 1 2 store 2 write-back 3 fence 5\n{named}event 5 site 65535\n"),
+    ];
+    for (script, byte, printed) in [
+        (script, "64", &open[..]),
+        (&closed, "71", &fenced),
+        (&closed, "72", "byte 72 none\n"),
+        (&closed, "127", "byte 127 none\n"),
+        (&closed, "128", "refused 9 at 0\n"),
+        (&closed, "65535", "refused 9 at 0\n"),
+        (
+            stored,
+            "0",
+            "byte 0 open 0 store 1 write-back 0\nevent 1 site 0\n",
+        ),
+        (&left_open, "64", "refused 13 at 0\n"),
+        (&left_open, "128", "refused 13 at 0\n"),
+        ("lines 1\nfence\nend\n", "64", "refused 11 at 2\n"),
+    ] {
+        let trace = run(&["write", "-"], script.as_bytes()).stdout;
+        for args in [
+            &["interval", byte, "-"][..],
+            &["interval", "--images", byte, "-"],
+        ] {
+            let output = run(args, &trace);
+            assert_eq!(text(&output.stdout), printed, "{script}");
+            assert_eq!(output.status.code(), Some(0));
+            assert!(output.stderr.is_empty());
+        }
+    }
+    let trace = run(&["write", "-"], closed.as_bytes()).stdout;
+    let file = folder("interval").join("trace");
+    std::fs::write(&file, &trace).expect("written");
+    let output = run(&["interval", "71", file.to_str().expect("text")], b"");
+    assert_eq!(text(&output.stdout), fenced);
+    let output = run(&["interval", "0", "-"], &trace[1..]);
+    assert_eq!(text(&output.stdout), "refused 5 at 0\n");
+    let output = run(&["interval", "4096", "-"], &vec![0; 200_000]);
+    assert_eq!(text(&output.stdout), "refused 2 at 0\n");
+    for byte in ["", "-1", "+1", "x", "65536", "0x40"] {
+        fails(&["interval", byte, "-"], &trace, "not a number from 0 to");
+    }
+}
+
+#[test]
 fn help() {
     let output = run(&["--help"], b"");
     assert_eq!(output.status.code(), Some(0));
@@ -237,6 +289,7 @@ fn help() {
         "pages",
         "page-calls",
         "exposure",
+        "interval",
         "--images",
     ];
     for word in words {
@@ -270,6 +323,10 @@ fn bad_usage() {
         &["exposure", "--images"],
         &["exposure", "a", "b"],
         &["exposure", "--image", "a"],
+        &["interval"],
+        &["interval", "0"],
+        &["interval", "--images", "0"],
+        &["interval", "0", "a", "b"],
     ] {
         fails(args, b"", "wrong arguments");
     }
@@ -285,6 +342,8 @@ fn bad_files() {
         fails(&[command, &missing], b"", "missing: ");
         fails(&[command, &here], b"", "directory");
     }
+    fails(&["interval", "0", &missing], b"", "missing: ");
+    fails(&["interval", "0", &here], b"", "directory");
     fails(&["write", "-", &here], SCRIPT.as_bytes(), "directory");
     fails(&["write", "-", &inside], SCRIPT.as_bytes(), "no/such: ");
     fails(&["write", "-"], b"lines 2\n\nflush 0/8\n", "-:3: ");
@@ -294,4 +353,6 @@ fn bad_files() {
     for command in ["judge", "exposure"] {
         fails(&[command, "--images", "-"], &trace, "too many crash images");
     }
+    let by_images = ["interval", "--images", "0", "-"];
+    fails(&by_images, &trace, "too many crash images");
 }

@@ -5,7 +5,7 @@ use reference::direct::Run;
 use reference::images::History;
 use reference::no_bytes::{self, Beside};
 use reference::{findings_with, judge, judge_by_images, script, trace, Event, Exposure, Finding};
-use reference::{Interval, Kind, Outcome, Range, Record, Way};
+use reference::{Epochs, Interval, Kind, Outcome, Range, Record, Way};
 use std::ops::RangeInclusive;
 use std::sync::Mutex;
 
@@ -178,8 +178,8 @@ struct Tally {
     traces: usize,
     kinds: [usize; 9],
     refused: [usize; 15],
-    /// None, open, closed.
-    intervals: [usize; 3],
+    /// None, open, open and written back, closed.
+    intervals: [usize; 4],
     /// Exposures that are refused, without a remainder, and with one.
     exposures: [usize; 3],
     /// Pairs out of order that one store set on one line.
@@ -205,8 +205,9 @@ impl Tally {
     fn add_interval(&mut self, interval: Interval) {
         let at = match interval {
             Interval::None => 0,
-            Interval::Open(_) => 1,
-            Interval::Closed(..) => 2,
+            Interval::Open { write_back: 0, .. } => 1,
+            Interval::Open { .. } => 2,
+            Interval::Closed { .. } => 3,
         };
         self.intervals[at] += 1;
     }
@@ -268,8 +269,9 @@ fn compare(records: &[Record]) -> Outcome {
     direct
 }
 
-/// Compares the intervals of every byte after the last event, and the exposures with each other and
-/// with the intervals. Refused events are passed over.
+/// Compares the intervals of every byte after the last event, epochs and events, with each other and
+/// with the epochs alone, and the exposures with each other and with the intervals. The exposure by
+/// images reads the intervals off images too. Refused events are passed over.
 fn compare_intervals(records: &[Record], tally: &mut Tally) {
     let (mut direct, mut history) = (Run::fresh(LINES), History::fresh(LINES));
     for record in records {
@@ -281,7 +283,9 @@ fn compare_intervals(records: &[Record], tally: &mut Tally) {
         let interval = direct.interval(byte);
         assert_eq!(interval, history.interval(byte), "{byte}: {records:?}");
         tally.add_interval(interval);
-        if let Interval::Closed(opened, closed) = interval {
+        let epochs = [direct.epochs(byte), history.epochs(byte)];
+        assert_eq!(epochs, [interval.epochs(); 2], "{byte}: {records:?}");
+        if let Epochs::Closed(opened, closed) = interval.epochs() {
             assert!(opened < closed, "{byte}: {records:?}");
             sum += closed - opened;
             count += 1;

@@ -7,8 +7,8 @@
 //! passed over; the tests count those compared. Each accepted one is also compared with the trace
 //! that lacks its events with a range of no bytes.
 //!
-//! Persist intervals are compared for every byte of the window after every event, and mean exposures
-//! after every event.
+//! Persist intervals, with their epochs and events, are compared for every byte of the window after
+//! every event, and mean exposures after every event.
 
 use reference::direct::Run;
 use reference::images::History;
@@ -163,12 +163,14 @@ const STORES: Mix = Mix {
     within: 0,
 };
 
-/// How many intervals were compared, and how many of them were closed.
+/// How many intervals were compared, how many of them were closed, and how many were open with their
+/// line written back.
 #[derive(Clone, Copy, Debug, Default)]
 struct Intervals {
     lists: usize,
     compared: usize,
     closed: usize,
+    waiting: usize,
     /// Exposures that are not refused, and those of them with a remainder.
     exposures: usize,
     remainders: usize,
@@ -177,7 +179,8 @@ struct Intervals {
 }
 
 impl Intervals {
-    /// Compares the intervals of every byte, and the exposures, after each event of a list.
+    /// Compares the intervals of every byte, epochs and events, and the exposures, after each event of
+    /// a list.
     fn compare(&mut self, lines: u16, records: &[Record]) {
         let (mut direct, mut history) = (Run::fresh(lines), History::fresh(lines));
         for record in records {
@@ -185,8 +188,12 @@ impl Intervals {
             for byte in 0..direct.window() {
                 let interval = direct.interval(byte);
                 assert_eq!(interval, history.interval(byte), "{byte}: {records:?}");
+                let epochs = [direct.epochs(byte), history.epochs(byte)];
+                assert_eq!(epochs, [interval.epochs(); 2], "{byte}: {records:?}");
                 self.compared += 1;
-                self.closed += usize::from(matches!(interval, Interval::Closed(..)));
+                self.closed += usize::from(matches!(interval, Interval::Closed { .. }));
+                let [_, write_back, fence] = interval.events();
+                self.waiting += usize::from(write_back > 0 && fence == 0);
             }
             let exposure = direct.exposure();
             assert_eq!(exposure, history.exposure(), "{records:?}");
@@ -221,6 +228,7 @@ fn intervals() {
     assert!(intervals.lists > 3_600);
     assert!(intervals.no_bytes > 1_000);
     assert!(intervals.compared > 10_000_000 && intervals.closed > 50_000);
+    assert!(intervals.waiting > 50_000);
     assert!(intervals.exposures > 10_000 && intervals.remainders > 1_000);
 }
 
@@ -237,6 +245,7 @@ fn intervals_of_long_lists() {
     assert_eq!(intervals.lists, 400);
     assert!(intervals.no_bytes > 1_000);
     assert!(intervals.compared > 5_000_000 && intervals.closed > 500_000);
+    assert!(intervals.waiting > 200_000);
     assert!(intervals.exposures > 10_000 && intervals.remainders > 10_000);
 }
 
@@ -248,6 +257,7 @@ fn intervals_of_any_window() {
     });
     assert_eq!(intervals.lists, 500);
     assert!(intervals.compared > 5_000_000 && intervals.closed > 100_000);
+    assert!(intervals.waiting > 200_000);
 }
 
 /// Many ranges of no bytes, in shapes of every sort.

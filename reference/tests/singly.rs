@@ -18,6 +18,9 @@ use std::path::Path;
 /// The answers to the runs at the limits, under a line `run: NAME` for each run.
 const LIMITS: &str = include_str!("data/limits.txt");
 
+/// The answers to the runs with the events of intervals, worked out by hand, in the same form.
+const EVENTS: &str = include_str!("data/events.txt");
+
 /// The answers to the runs with exposures, worked out by hand, in the same form.
 const EXPOSURES: &str = include_str!("data/exposure.txt");
 
@@ -104,8 +107,18 @@ fn finding_words(finding: Finding) -> String {
 fn interval_words(interval: Interval) -> String {
     match interval {
         Interval::None => "none".to_string(),
-        Interval::Open(since) => format!("open since {since}"),
-        Interval::Closed(from, to) => format!("closed {from} to {to}"),
+        Interval::Open {
+            since,
+            store,
+            write_back,
+        } => format!("open since {since} store {store} write-back {write_back}"),
+        Interval::Closed {
+            from,
+            to,
+            store,
+            write_back,
+            fence,
+        } => format!("closed {from} to {to} store {store} write-back {write_back} fence {fence}"),
     }
 }
 
@@ -178,49 +191,49 @@ fence: none
 ask 0: none
 store 8/8: none
 ask 7: none
-ask 8: open since 1
-ask 15: open since 1
+ask 8: open since 1 store 3 write-back 0
+ask 15: open since 1 store 3 write-back 0
 ask 16: none
 run: stored twice around a write-back and a fence
 fresh 2: taken
 store 0/8: none
-ask 0: open since 0
+ask 0: open since 0 store 1 write-back 0
 write-back 0/1: none
-ask 0: open since 0
+ask 0: open since 0 store 1 write-back 2
 fence: none
-ask 0: closed 0 to 1
+ask 0: closed 0 to 1 store 1 write-back 2 fence 3
 store 4/8: none
-ask 3: closed 0 to 1
-ask 4: open since 1
-ask 8: open since 1
+ask 3: closed 0 to 1 store 1 write-back 2 fence 3
+ask 4: open since 1 store 4 write-back 0
+ask 8: open since 1 store 4 write-back 0
 fence: none
 fence: none
-ask 4: open since 1
+ask 4: open since 1 store 4 write-back 0
 write-back 63/1: none
-ask 4: open since 1
+ask 4: open since 1 store 4 write-back 7
 fence: none
-ask 3: closed 0 to 1
-ask 4: closed 1 to 4
+ask 3: closed 0 to 1 store 1 write-back 2 fence 3
+ask 4: closed 1 to 4 store 4 write-back 7 fence 8
 run: stored again between the write-back and the fence
 fresh 2: taken
 store 0/8: none
 write-back 0/8: none
 store 4/4: none
 fence: none
-ask 0: closed 0 to 1
-ask 4: open since 0
+ask 0: closed 0 to 1 store 1 write-back 2 fence 4
+ask 4: open since 0 store 3 write-back 0
 write-back 0/8: none
 fence: none
-ask 0: closed 0 to 1
-ask 4: closed 0 to 2
+ask 0: closed 0 to 1 store 1 write-back 2 fence 4
+ask 4: closed 0 to 2 store 3 write-back 5 fence 6
 run: a write-back before the store
 fresh 2: taken
 write-back 0/8: finding 5 lost 0 kept 0 moment 0 store 0
 store 0/8: none
 fence: none
-ask 0: open since 0
+ask 0: open since 0 store 2 write-back 0
 fence: none
-ask 0: open since 0
+ask 0: open since 0 store 2 write-back 0
 run: two write-backs and two fences
 fresh 2: taken
 fence: none
@@ -228,10 +241,10 @@ store 0/8: none
 write-back 0/8: none
 write-back 0/8: finding 6 lost 0 kept 0 moment 0 store 0
 fence: none
-ask 0: closed 1 to 2
+ask 0: closed 1 to 2 store 2 write-back 3 fence 5
 write-back 0/8: finding 6 lost 0 kept 0 moment 0 store 0
 fence: none
-ask 0: closed 1 to 2
+ask 0: closed 1 to 2 store 2 write-back 3 fence 5
 run: two write-backs, and a store between them
 fresh 2: taken
 store 0/8: none
@@ -239,29 +252,29 @@ write-back 0/8: none
 store 8/8: none
 write-back 0/8: none
 fence: none
-ask 0: closed 0 to 1
-ask 8: closed 0 to 1
+ask 0: closed 0 to 1 store 1 write-back 2 fence 5
+ask 8: closed 0 to 1 store 3 write-back 4 fence 5
 run: a store across two lines
 fresh 2: taken
 store 60/8: none
 write-back 60/1: none
 fence: none
-ask 63: closed 0 to 1
-ask 64: open since 0
+ask 63: closed 0 to 1 store 1 write-back 2 fence 3
+ask 64: open since 0 store 1 write-back 0
 fence: none
 write-back 64/1: none
 fence: none
-ask 60: closed 0 to 1
-ask 63: closed 0 to 1
-ask 64: closed 0 to 3
-ask 67: closed 0 to 3
+ask 60: closed 0 to 1 store 1 write-back 2 fence 3
+ask 63: closed 0 to 1 store 1 write-back 2 fence 3
+ask 64: closed 0 to 3 store 1 write-back 5 fence 6
+ask 67: closed 0 to 3 store 1 write-back 5 fence 6
 ask 68: none
 run: a write-back of the other line
 fresh 2: taken
 store 0/8: none
 write-back 64/64: finding 5 lost 64 kept 0 moment 0 store 0
 fence: none
-ask 0: open since 0
+ask 0: open since 0 store 1 write-back 0
 ";
 
 #[test]
@@ -639,7 +652,8 @@ fn calls_cover_every_answer() {
     for kind in Kind::ALL {
         some("event", Sort::Finding(kind.number()), 30);
     }
-    for sort in [Sort::NoInterval, Sort::Open, Sort::Closed, Sort::OpenAgain] {
+    let open = [Sort::Open, Sort::OpenWrittenBack, Sort::OpenAgain];
+    for sort in [Sort::NoInterval, Sort::Closed].into_iter().chain(open) {
         some("ask", sort, 100);
     }
     for sort in [Sort::Whole, Sort::WithRemainder, Sort::Refused(17)] {
@@ -684,10 +698,10 @@ fn calls_stay_in_their_bounds() {
     let made = build();
     let of_writer = made.calls().filter(|call| call.is_of_writer()).count();
     let on_runs = made.calls().count() - of_writer;
-    assert!((5_000..=14_400).contains(&on_runs), "{on_runs}");
+    assert!((5_000..=14_800).contains(&on_runs), "{on_runs}");
     assert!((2_000..=4_000).contains(&of_writer), "{of_writer}");
-    assert!(made.to_bytes().len() <= 210_000);
-    assert!(made.text().len() <= 550_000);
+    assert!(made.to_bytes().len() <= 215_000);
+    assert!(made.text().len() <= 620_000);
     for entry in &made.entries {
         let (first, others) = entry.case.calls.split_first().expect("a run has calls");
         if entry.case.is_of_writer() {
@@ -761,6 +775,21 @@ fn runs_written_by_hand() {
         assert_eq!(group_lines::<Run>(&made, group), expected);
         assert_eq!(group_lines::<History>(&made, group), expected);
     }
+}
+
+/// The runs with the events of intervals: those of few events both ways, all of them the direct way.
+#[test]
+fn events_written_by_hand() {
+    let made = build();
+    let expected = answers_of(EVENTS);
+    let (few, late) = ("events of intervals", "late events of intervals");
+    let lines = [
+        group_lines::<Run>(&made, few),
+        group_lines::<Run>(&made, late),
+    ];
+    assert_eq!([lines[0].len(), lines[1].len()], [217, 47]);
+    assert_eq!(lines.concat(), expected);
+    assert_eq!(group_lines::<History>(&made, few), lines[0]);
 }
 
 /// The runs with exposures: those of few events both ways, all of them the direct way.

@@ -5,7 +5,7 @@ use event::Answer;
 use event::Check;
 use event::Event;
 use event::Finding;
-use event::Interval;
+use event::NamedInterval;
 use event::Range;
 use event::Refusal;
 use event::numbers;
@@ -101,14 +101,31 @@ pub fn fresh(lines: u16, c: Check) {
     }
 }
 
-// An interval by its epochs, which end a line.
-fn interval(i: Interval) {
+// An interval by its epochs and its events, which end a line.
+fn interval(i: NamedInterval) {
     match i {
-        Interval::None => words(b"none"),
-        Interval::Open(e) => field(b"open since ", e),
-        Interval::Closed(e, f) => {
-            field(b"closed ", e);
-            field(b" to ", f);
+        NamedInterval::None => words(b"none"),
+        NamedInterval::Open {
+            opened,
+            store,
+            back,
+        } => {
+            field(b"open since ", opened);
+            field(b" store ", store);
+            field(b" write-back ", back);
+        }
+        NamedInterval::Closed {
+            opened,
+            closed,
+            store,
+            back,
+            fence,
+        } => {
+            field(b"closed ", opened);
+            field(b" to ", closed);
+            field(b" store ", store);
+            field(b" write-back ", back);
+            field(b" fence ", fence);
         }
     }
     words(b"\n");

@@ -16,7 +16,7 @@ use Rattle.event.specs.declared.Check.the-variants.{Passed, Refused as Breaks}
 use Rattle.event.specs.declared.Answer.the-variants.{Refused, Found}
 use Rattle.event.specs.Reply.{Reply}
 use Rattle.window.specs.Window.{mostLines, windowBytes}
-use Rattle.history.specs.Interval.{epochAt, intervalOf}
+use Rattle.history.specs.Interval.{epochAt, namedOf}
 use Rattle.history.specs.Transaction.{depth}
 use Rattle.history.specs.View.{View, ofHistory}
 use Rattle.history.specs.Refused.{Limit, limitsBy, First, NoneBroken}
@@ -33,6 +33,7 @@ use Rattle.engine.specs.Call.{askOf, closeOf}
 use Rattle.engine.specs.Tracks.{Tracks}
 use Rattle.engine.proofs.Histories.{taken-inside}
 use Rattle.engine.proofs.Answered.{Answered, answered}
+use Rattle.engine.proofs.ByEntries.{same-named}
 use Rattle.engine.proofs.Link.{same-view, tracks, same-answers, findings-counted}
 use Rattle.claims.specs.After.{runFrom, takenFrom, answersFrom}
 
@@ -104,9 +105,9 @@ module _ (asked : ℕ) (given : List Record) where
   pub byte-refused : (byte : ℕ) → windowBytes (windowOf asked) ≤ byte → askOf (runFrom asked given) byte ≡ AskRefused PastWindow
   byte-refused byte k = rw (lines-viewed, lt-ltb (windowBytes (windowOf asked)) (byte + 1) (omega arith))
 
-  pub byte-known : (byte : ℕ) → byte < windowBytes (windowOf asked) → askOf (runFrom asked given) byte ≡ Known (intervalOf (takenFrom asked given) byte)
+  pub byte-known : (byte : ℕ) → byte < windowBytes (windowOf asked) → askOf (runFrom asked given) byte ≡ Known (namedOf (takenFrom asked given) byte)
   byte-known byte k =
-      rw (lines-viewed, le-ltb (windowBytes (windowOf asked)) (byte + 1) (omega arith)) (ap (λ (v : View). Known (v .interval byte)) viewed)
+      rw (lines-viewed, le-ltb (windowBytes (windowOf asked)) (byte + 1) (omega arith)) (ap Known (same-named tracked byte))
 
   -- the totals at closing
   pub closing-totals : let h = takenFrom asked given in depth h ≡ 0 →

@@ -1,5 +1,5 @@
 -- The mean exposure of a run: what the accepted events say.
-use mathlib.Core.Path.{_≡_, refl, sym, ap, _∙_}
+use mathlib.Core.Path.{_≡_, refl, sym, ap, ap₂, _∙_, fun-ext}
 use mathlib.Core.Logic.{_↔_}
 use mathlib.Core.List.{List, [], _∷_}
 use Prim.Native.Nat.{ℕ, zero, suc, _*_, _≤_, _<_}
@@ -9,24 +9,28 @@ use lib.ListN.{length}
 use Rattle.event.specs.declared.Interval.{Interval}
 use Rattle.event.specs.declared.Interval.the-variants.{None, Open, Closed}
 use Rattle.event.specs.declared.Record.{Record}
-use Rattle.event.specs.Reply.{Reply, intervalValues}
+use Rattle.event.specs.declared.NamedInterval.{NamedInterval}
+use Rattle.event.specs.declared.NamedInterval.the-variants.{None as NoneNamed, Open as OpenNamed, Closed as ClosedNamed}
+use Rattle.event.specs.Reply.{Reply, namedValues, withoutEvents}
 use Rattle.window.specs.Window.{windowBytes, lineOf}
 use Rattle.history.specs.History.{History, is, fences}
-use Rattle.history.specs.Interval.{epochAt, lastStore, fenceAfter, intervalOf}
+use Rattle.history.specs.Interval.{epochAt, lastStore, fenceAfter, intervalOf, namedOf}
 use Rattle.history.specs.View.{View}
 use Rattle.history.specs.Given.{windowOf}
 use Rattle.history.proofs.Count.{count-few, count-less}
-use Rattle.history.proofs.Interval.{closing-fence, interval-none, interval-open, interval-closed}
+use Rattle.history.proofs.Interval.{closing-fence, interval-none, interval-open, interval-closed, named-interval}
 use Rattle.history.proofs.Meaning.Accepted.{Taken, accepted-taken, taken-events}
 use Rattle.engine.specs.declared.Asked.{Asked}
 use Rattle.engine.specs.Reply.{askedReply}
+use Rattle.engine.proofs.ByEntries.{same-interval}
 use Rattle.engine.proofs.ClosingFence.{closing-within, closing-forced}
 use Rattle.exposure.specs.Exposure.{epochsAtRisk, oneIfClosed, total, sumOf, closedCount, exposureIn, exposureOf, exposureReply, mostEpochs, IsMean}
 use Rattle.exposure.proofs.Total.{total-same, closed-few, sum-below, sum-above}
 use Rattle.exposure.proofs.Meaning.{mean-exactly}
 use Rattle.claims.specs.After.{runFrom, takenFrom}
+use Rattle.claims.specs.WhereClosed.{epochsAnswered}
 use Rattle.claims.specs.MeanExposure.{answerOf, askedEpochs, askedClosed}
-use Rattle.claims.proofs.Answers.{viewed, byte-known, window-fits}
+use Rattle.claims.proofs.Answers.{tracked, viewed, byte-known, window-fits}
 
 -- there are at most as many fences as events
 epoch-few : (h : History) (m : ℕ) → epochAt h m ≤ m
@@ -77,16 +81,16 @@ risk-few h b few = go (intervalOf h b) refl
     go (Open opening) e = omega arith
     go (Closed opening closing) e = omega (arith, lasted h b e .few)
 
--- what a byte's answer adds is what its interval does
-asked-epochs : (i : Interval) → epochsAtRisk i ≡ askedEpochs (Reply.values (intervalValues i))
-asked-epochs None = refl
-asked-epochs (Open opening) = refl
-asked-epochs (Closed opening closing) = refl
+-- what a byte's answer without its events adds is what its interval does
+asked-epochs : (i : NamedInterval) → epochsAtRisk (withoutEvents i) ≡ askedEpochs (epochsAnswered (Reply.values (namedValues i)))
+asked-epochs NoneNamed = refl
+asked-epochs (OpenNamed opened store back) = refl
+asked-epochs (ClosedNamed opened closed store back fence) = refl
 
-asked-closed : (i : Interval) → oneIfClosed i ≡ askedClosed (Reply.values (intervalValues i))
-asked-closed None = refl
-asked-closed (Open opening) = refl
-asked-closed (Closed opening closing) = refl
+asked-closed : (i : NamedInterval) → oneIfClosed (withoutEvents i) ≡ askedClosed (epochsAnswered (Reply.values (namedValues i)))
+asked-closed NoneNamed = refl
+asked-closed (OpenNamed opened store back) = refl
+asked-closed (ClosedNamed opened closed store back fence) = refl
 
 -- the mean is one at least where the sum is as large as the number of bytes
 quotient-some : {sum bytes quotient remainder divisor : ℕ} → IsMean sum bytes quotient remainder divisor → bytes ≤ sum → 1 ≤ quotient
@@ -103,7 +107,8 @@ module _ (asked : ℕ) (given : List Record) where
 
   -- the answer is that of the accepted events
   pub same-exposure : exposureOf (runFrom asked given) ≡ exposureIn (windowOf asked) (intervalOf history)
-  same-exposure = ap (λ (v : View). exposureIn (v .lines) (v .interval)) (viewed asked given)
+  same-exposure =
+      ap₂ (λ (v : View) (interval : ℕ → Interval). exposureIn (v .lines) interval) (viewed asked given) (fun-ext (same-interval (tracked asked given)))
 
   pub exposed-mean : (quotient remainder divisor : ℕ) →
       (exposureReply (exposureOf (runFrom asked given)) ≡ Reply.values (quotient ∷ remainder ∷ divisor ∷ [])) ↔
@@ -115,8 +120,14 @@ module _ (asked : ℕ) (given : List Record) where
       (sumOf (intervalOf history) bytes ≡ total (λ b. askedEpochs (answerOf asked given b)) bytes) ×
       (closedCount (intervalOf history) bytes ≡ total (λ b. askedClosed (answerOf asked given b)) bytes)
   asked-sums = (
-    total-same bytes (λ b k. asked-epochs (intervalOf history b) ∙ sym (ap (λ (a : Asked). askedEpochs (askedReply a)) (byte-known asked given b k))),
-    total-same bytes (λ b k. asked-closed (intervalOf history b) ∙ sym (ap (λ (a : Asked). askedClosed (askedReply a)) (byte-known asked given b k))),
+    total-same bytes
+        (λ b k.
+        ap epochsAtRisk (sym (named-interval history b)) ∙ asked-epochs (namedOf history b) ∙
+        sym (ap (λ (a : Asked). askedEpochs (epochsAnswered (askedReply a))) (byte-known asked given b k))),
+    total-same bytes
+        (λ b k.
+        ap oneIfClosed (sym (named-interval history b)) ∙ asked-closed (namedOf history b) ∙
+        sym (ap (λ (a : Asked). askedClosed (epochsAnswered (askedReply a))) (byte-known asked given b k))),
   )
 
   pub mean-least : (quotient remainder divisor : ℕ) →

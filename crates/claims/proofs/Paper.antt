@@ -6,9 +6,9 @@ use lib.ListN.{length}
 use Rattle.history.specs.Count.{last}
 use Rattle.history.specs.History.{History}
 use Rattle.history.specs.Interval.{epochAt, lastStore, intervalOf}
-use Rattle.history.specs.Found.{isOpen}
+use Rattle.history.specs.ByEpochs.{isOpen}
 use Rattle.history.proofs.Meaning.Events.{epoch-start, epoch-next}
-use Rattle.engine.proofs.Epochs.{backed}
+use Rattle.engine.proofs.ByEntries.{backed}
 use Rattle.claims.specs.Paper.{status}
 use Rattle.claims.proofs.Rules.{timestamp-next, persist-next, flush-next}
 use Rattle.claims.proofs.Next.{interval-next, backed-next}

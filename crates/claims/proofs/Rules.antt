@@ -8,9 +8,9 @@ use Rattle.event.specs.declared.Interval.the-variants.{Open}
 use Rattle.window.specs.Window.{lineOf}
 use Rattle.event.proofs.Bools.{fails, or-cases}
 use Rattle.history.specs.History.{fences, storesByte, writesBackLine}
-use Rattle.history.specs.Found.{isOpen}
+use Rattle.history.specs.ByEpochs.{isOpen}
 use Rattle.engine.proofs.ClosingFence.{back-no-fence}
-use Rattle.engine.proofs.NextEpochs.{store-no-fence}
+use Rattle.engine.proofs.NextEntries.{store-no-fence}
 use Rattle.claims.specs.Paper.{Status, write, clwb, sfence, updated}
 use Rattle.claims.proofs.Ends.{end-closes, endsIf}
 

@@ -90,22 +90,22 @@ module _ (trace : List ℕ) where
         not-refused (some-closed (linesIn trace) (intervalOf h) b opening closing inside e .1) (sym (all-exposed t d) ∙ r)
 
   module _ (area : List ℕ) where
-    -- the judge's verdict where the area is not too short, for either outcome of the check
-    same-refusal : {number at : ℕ} (c : TraceCheck) → fileCheck trace ≡ c → traceCheck trace area ≡ c → verdictReply (verdictOf trace area) ≡ Reply.refused number at →
-        traceExposureReply (traceExposureOf trace) ≡ Reply.refused number at
-    same-refusal (RefusedAt x n) f t e = refused f ∙ sym (ap verdictReply (refuses trace area t)) ∙ e
-    same-refusal Passed f t e = absurd (not-refused (ap verdictReply (totalled trace area t)) e)
+    -- an answer that is refused as the file and its records are is refused as the judge refuses, 14 aside
+    module _ (answer : Reply) (stopped : (x : Refusal) (n : ℕ) → fileCheck trace ≡ RefusedAt x n → answer ≡ Reply.refused (numberOf x) n) where
+      same-refusal : {number at : ℕ} (c : TraceCheck) → fileCheck trace ≡ c → traceCheck trace area ≡ c →
+          verdictReply (verdictOf trace area) ≡ Reply.refused number at → answer ≡ Reply.refused number at
+      same-refusal (RefusedAt x n) f t e = stopped x n f ∙ sym (ap verdictReply (refuses trace area t)) ∙ e
+      same-refusal Passed f t e = absurd (not-refused (ap verdictReply (totalled trace area t)) e)
 
-    pub judge-refuses : (number at : ℕ) → verdictReply (verdictOf trace area) ≡ Reply.refused number at → number ≢ 14 →
-        traceExposureReply (traceExposureOf trace) ≡ Reply.refused number at
-    judge-refuses number at e other = go (area-aside trace area)
-      where
-        go : (traceCheck trace area ≡ fileCheck trace) ⊎ (traceCheck trace area ≡ RefusedAt AreaTooShort 0) → traceExposureReply (traceExposureOf trace) ≡ Reply.refused number at
-        go (inl same) = same-refusal (fileCheck trace) refl same e
-        go (inr short) = let r = ap verdictReply (refuses trace area short) in let n : number ≡ 14 = cc in absurd (other n)
+      pub judge-refuses : (number at : ℕ) → verdictReply (verdictOf trace area) ≡ Reply.refused number at → number ≢ 14 → answer ≡ Reply.refused number at
+      judge-refuses number at e other = go (area-aside trace area)
+        where
+          go : (traceCheck trace area ≡ fileCheck trace) ⊎ (traceCheck trace area ≡ RefusedAt AreaTooShort 0) → answer ≡ Reply.refused number at
+          go (inl same) = same-refusal (fileCheck trace) refl same e
+          go (inr short) = let r = ap verdictReply (refuses trace area short) in let n : number ≡ 14 = cc in absurd (other n)
 
     -- an accepted trace
-    accepted-check : (totals : List ℕ) → verdictReply (verdictOf trace area) ≡ Reply.values totals → fileCheck trace ≡ Passed
+    pub accepted-check : (totals : List ℕ) → verdictReply (verdictOf trace area) ≡ Reply.values totals → fileCheck trace ≡ Passed
     accepted-check totals e = go (area-aside trace area) (fileCheck trace) refl
       where
         go : (traceCheck trace area ≡ fileCheck trace) ⊎ (traceCheck trace area ≡ RefusedAt AreaTooShort 0) → (c : TraceCheck) → fileCheck trace ≡ c → fileCheck trace ≡ Passed
@@ -133,5 +133,5 @@ mean-exposure =
       least = mean-least;
       fits = sum-fits;
       traces = judge-accepts;
-      refused = judge-refuses;
+      refused = λ trace area. judge-refuses trace area (traceExposureReply (traceExposureOf trace)) (λ x n. refused trace);
     }

@@ -6,10 +6,10 @@ use Prim.Native.Nat.{ℕ, _<_}
 use Rattle.event.specs.declared.Record.{Record}
 use Rattle.event.specs.declared.Finding.{Finding}
 use Rattle.event.specs.declared.Finding.the-variants.{None, Holds, Lost, OutOfOrder, Unlogged, Clean, WrittenTwice, LoggedTwice, Empty}
-use Rattle.event.specs.Reply.{Reply, findingValues, intervalValues}
+use Rattle.event.specs.Reply.{Reply, findingValues, namedValues}
 use Rattle.window.specs.Window.{windowBytes}
 use Rattle.history.specs.History.{History}
-use Rattle.history.specs.Interval.{intervalOf}
+use Rattle.history.specs.Interval.{intervalOf, namedOf}
 use Rattle.history.specs.Claim.{Claim}
 use Rattle.history.specs.Given.{windowOf}
 use Rattle.events.specs.Give.{giveOf}
@@ -22,9 +22,10 @@ use Rattle.claims.specs.Paper.{status}
 pub record Demand2 : Type 0 where
   -- each number and each table entry of the run
   pub tables : (asked : ℕ) (given : List Record) → Tracks (windowOf asked) (takenFrom asked given) (runFrom asked given)
-  -- the interval of every byte of the window, as it is answered
+  -- the interval of every byte of the window, as it is answered: its epochs, and then the events of the last store, of the first write-back
+  -- of its line after it, and of the fence
   pub intervals : (asked : ℕ) (given : List Record) (byte : ℕ) → byte < windowBytes (windowOf asked) →
-      askedReply (askOf (runFrom asked given) byte) ≡ Reply.values (intervalValues (intervalOf (takenFrom asked given) byte))
+      askedReply (askOf (runFrom asked given) byte) ≡ Reply.values (namedValues (namedOf (takenFrom asked given) byte))
   -- the finding of every event, as it is answered
   pub findings : (asked : ℕ) (given : List Record) (r : Record) (answer : List ℕ) →
       givenReply (giveOf (runFrom asked given) r) ≡ Reply.values answer →

@@ -11,7 +11,7 @@ use Rattle.history.specs.History.{History}
 use Rattle.history.specs.Interval.{intervalOf}
 use Rattle.history.specs.Given.{windowOf}
 use Rattle.tables.specs.declared.Run.{Run}
-use Rattle.tables.specs.View.{ofRun}
+use Rattle.tables.specs.View.{intervalIn, ofRun}
 use Rattle.engine.specs.Call.{askOf}
 use Rattle.engine.specs.Reply.{askedReply}
 use Rattle.exposure.specs.Exposure.{total, sumOf, closedCount, exposureIn, exposureOf, exposureReply, IsMean}
@@ -19,14 +19,15 @@ use Rattle.trace.specs.Records.{linesIn, eventsIn}
 use Rattle.verdict.specs.Verdict.{verdictOf, verdictReply}
 use Rattle.trace_exposure.specs.TraceExposure.{traceExposureOf, traceExposureReply}
 use Rattle.claims.specs.After.{runFrom, takenFrom}
+use Rattle.claims.specs.WhereClosed.{epochsAnswered}
 
 -- no byte of the window is closed
 abbrev pub NoneClosed : (lines : ℕ) → History → Type 0
 NoneClosed lines h = (b opening closing : ℕ) → b < windowBytes lines → intervalOf h b ≢ Closed opening closing
 
--- what a byte gets that is asked after these events
+-- what a byte gets that is asked after these events, its events dropped
 abbrev pub answerOf : ℕ → List Record → ℕ → Reply
-answerOf asked given b = askedReply (askOf (runFrom asked given) b)
+answerOf asked given b = epochsAnswered (askedReply (askOf (runFrom asked given) b))
 
 -- what the answer of a byte asked adds: closing epoch less opening epoch, and one byte, where it has both epochs
 abbrev pub askedEpochs : Reply → ℕ
@@ -47,7 +48,8 @@ pub record MeanExposure : Type 0 where
   -- any run whatever: these three numbers are answered exactly where they are the mean of its sums
   pub anyRun : (run : Run) (quotient remainder divisor : ℕ) → let bytes = windowBytes (ofRun run .lines) in
       (exposureReply (exposureOf run) ≡ Reply.values (quotient ∷ remainder ∷ divisor ∷ [])) ↔
-      IsMean (sumOf (ofRun run .interval) bytes) (closedCount (ofRun run .interval) bytes) quotient remainder divisor
+      let interval = intervalIn (run .stored) (run .fenced) (run .opened) (run .closed) in
+      IsMean (sumOf interval bytes) (closedCount interval bytes) quotient remainder divisor
   -- after every list of events: the answer is that of the accepted ones
   pub answered : (asked : ℕ) (given : List Record) →
       exposureReply (exposureOf (runFrom asked given)) ≡ exposureReply (exposureIn (windowOf asked) (intervalOf (takenFrom asked given)))

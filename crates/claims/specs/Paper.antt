@@ -9,7 +9,7 @@ use Rattle.event.specs.declared.Interval.{Interval}
 use Rattle.event.specs.declared.Interval.the-variants.{None, Open, Closed}
 use Rattle.window.specs.Window.{lineOf}
 use Rattle.history.specs.History.{History, fences, storesByte, writesBackLine}
-use Rattle.history.specs.Found.{isOpen}
+use Rattle.history.specs.ByEpochs.{isOpen}
 
 -- the persistency status of a byte, with the global status
 pub record Status : Type 0 where

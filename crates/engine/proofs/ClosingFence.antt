@@ -10,13 +10,14 @@ use lib.ListN.{length}
 use borrow.Author.Tests.{eqb-true}
 use Rattle.event.specs.declared.Event.{Event}
 use Rattle.event.specs.Numbers.{kindOf}
+use Rattle.window.specs.Window.{lineOf}
 use Rattle.event.proofs.Bools.{and-left}
 use Rattle.history.specs.Count.{last}
 use Rattle.history.specs.History.{History, is, writesBack, fences, touchesLine, writesBackLine}
-use Rattle.history.specs.Interval.{fenceAfter}
+use Rattle.history.specs.Interval.{lastStore, fenceAfter, closingFence}
 use Rattle.history.specs.Image.{Forced}
 use Rattle.history.proofs.History.{is-number, is-last}
-use Rattle.history.proofs.Interval.{closing-fence, forced-closes, closes-forced}
+use Rattle.history.proofs.Interval.{closing-stored, closing-unstored, closing-fence, forced-closes, closes-forced}
 use Rattle.engine.proofs.Histories.{is-apart}
 
 -- the last write-back of a line
@@ -75,3 +76,11 @@ module _ (h : History) (l s : ℕ) where
                 isFence = isFence;
                 by = le-refl fence;
               }
+
+-- the fence that closed a byte's interval is an event of the list
+pub closing-event : (h : History) (b : ℕ) → closingFence h b ≢ 0 → closingFence h b ≤ length h
+closing-event h b z = go (decEq (lastStore h b) 0)
+  where
+    go : Dec (lastStore h b ≡ 0) → closingFence h b ≤ length h
+    go (yes n) = absurd (z (closing-unstored h b n))
+    go (no s) = rw (closing-stored h b s) (closing-within h (lineOf b) (lastStore h b) (rw (closing-stored h b s) at z))

@@ -12,7 +12,7 @@ use Rattle.event.specs.declared.Range.{Range}
 use Rattle.window.specs.Window.{mostLines, windowBytes, lineOf, rangeEnd, covers, isEmpty, touches, lineCount, isPast}
 use Rattle.event.proofs.Bools.{and-left, and-right, both}
 use Rattle.window.proofs.Meaning.{touched, touched-below, below-touched}
-use Rattle.tables.specs.Table.{entry, filledBytes, filledLines}
+use Rattle.tables.specs.Table.{entry, changed, filledBytes, filledLines}
 use Rattle.tables.proofs.Table.{changed-entry}
 
 -- two tests that imply one another
@@ -43,6 +43,26 @@ touches-lines a l =
 pub filled-lines : (x : ℕ) (a : Range) (xs : List ℕ) (l : ℕ) → lineOf (a .address) + lineCount a ≤ length xs →
     entry (filledLines x a xs) l ≡ cond (touches a l || false) x (entry xs l)
 filled-lines x a xs l k = rw (or-false, ← touches-lines a l) (changed-entry (λ place old. x) (lineOf (a .address)) xs (lineCount a) l k)
+
+-- an entry after those of the bytes of these lines were changed
+pub changed-lines : (f : ℕ → ℕ → ℕ) (a : Range) (xs : List ℕ) (b : ℕ) → windowBytes (lineOf (a .address) + lineCount a) ≤ length xs →
+    entry (changed f (windowBytes (lineOf (a .address))) (windowBytes (lineCount a)) xs) b ≡
+    cond (touches a (lineOf b) || false) (f b (entry xs b)) (entry xs b)
+changed-lines f a xs b k =
+    rw (or-false, ← touches-lines a (lineOf b), ← on-lines (lineOf (a .address)) (lineCount a))
+    (changed-entry f (windowBytes (lineOf (a .address))) xs (windowBytes (lineCount a)) b (omega arith))
+  where
+    on-lines : (l n : ℕ) → (leb (windowBytes l) b && ltb b (windowBytes l + windowBytes n)) ≡ (leb l (lineOf b) && ltb (lineOf b) (l + n))
+    on-lines l n =
+        same-test (leb (windowBytes l) b && ltb b (windowBytes l + windowBytes n)) (leb l (lineOf b) && ltb (lineOf b) (l + n))
+        (λ t.
+        let low = leb-true (windowBytes l) b (and-left (leb (windowBytes l) b) (ltb b (windowBytes l + windowBytes n)) t) in
+        let high = ltb-true b (windowBytes l + windowBytes n) (and-right (leb (windowBytes l) b) (ltb b (windowBytes l + windowBytes n)) t) in
+        both (le-leb l (lineOf b) (omega (arith, low))) (lt-ltb (lineOf b) (l + n) (omega (arith, high))))
+        (λ t.
+        let low = leb-true l (lineOf b) (and-left (leb l (lineOf b)) (ltb (lineOf b) (l + n)) t) in
+        let high = ltb-true (lineOf b) (l + n) (and-right (leb l (lineOf b)) (ltb (lineOf b) (l + n)) t) in
+        both (le-leb (windowBytes l) b (omega (arith, low))) (lt-ltb b (windowBytes l + windowBytes n) (omega (arith, high))))
 
 -- a range whose bytes and lines the tables have
 pub record Fits (a : Range) : Type 0 where

@@ -5,7 +5,7 @@ use Prim.Native.Nat.{ℕ, zero, suc}
 use native.Mathlib.Omega.{arith}
 use lib.ListN.{length, replicate, length-replicate}
 use Rattle.history.specs.Count.{count, last}
-use Rattle.history.specs.Interval.{epochAt, lastStore}
+use Rattle.history.specs.Interval.{epochAt, lastStore, closingFence, firstBack}
 use Rattle.history.specs.Transaction.{depth, outermost}
 use Rattle.history.proofs.Meaning.Accepted.{Taken}
 use Rattle.tables.specs.Table.{entry}
@@ -26,7 +26,7 @@ zeros-length n = length-replicate {A = ℕ} n 0
 
 -- so it tracks the history of no event
 fresh-tracks : (lines : ℕ) → Tracks lines [] (emptyRun lines)
-unfolding emptyRun epochAt count last lastStore depth outermost
+unfolding emptyRun epochAt count last lastStore closingFence firstBack depth outermost
 fresh-tracks lines =
     record {
       window = refl;
@@ -38,8 +38,10 @@ fresh-tracks lines =
       latestFence = refl;
       stored = zeros 4096;
       logged = zeros 4096;
+      fenced = λ b. rw (zeros 4096 b);
       opened = zeros 4096;
-      closed = zeros 4096;
+      closed = λ b some. absurd (some refl);
+      written = λ b. rw (zeros 4096 b);
       dirtied = zeros 64;
       backed = zeros 64;
     }
@@ -51,8 +53,10 @@ fresh-sized lines =
     record {
       stored = zeros-length 4096;
       logged = zeros-length 4096;
+      fenced = zeros-length 4096;
       opened = zeros-length 4096;
       closed = zeros-length 4096;
+      written = zeros-length 4096;
       dirtied = zeros-length 64;
       backed = zeros-length 64;
     }
@@ -60,4 +64,12 @@ fresh-sized lines =
 -- and it follows that history
 pub fresh-follows : (lines : ℕ) → Follows lines [] (emptyRun lines)
 unfolding emptyRun
-fresh-follows lines = record { tracks = fresh-tracks lines; sized = fresh-sized lines; taken = Taken.start; findings = omega arith }
+fresh-follows lines =
+    record {
+      tracks = fresh-tracks lines;
+      sized = fresh-sized lines;
+      taken = Taken.start;
+      findings = omega arith;
+      fenced = λ b. omega (arith, zeros 4096 b);
+      written = λ b. omega (arith, zeros 4096 b);
+    }

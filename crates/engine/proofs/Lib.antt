@@ -2,8 +2,8 @@
 pub mod Histories  -- a history after one more event
 pub mod ClosingFence  -- the closing fence of a store
 pub mod NextFence  -- the closing fence of a store after one more event
-pub mod Epochs  -- the epochs at which a byte opened and closed
-pub mod NextEpochs  -- these epochs after one more event
+pub mod ByEntries  -- a byte's interval and events from a run's entries
+pub mod NextEntries  -- its last store, closing fence and first write-back after one more event
 pub mod Filled  -- a table filled at the bytes or lines of a range
 pub mod Sizes  -- the sizes of the tables
 pub mod Entries  -- each table entry after an event

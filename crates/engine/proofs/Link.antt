@@ -1,38 +1,92 @@
 -- The link: a run that grew from a fresh window tracks the accepted events, so it answers as they say.
-use mathlib.Core.Path.{_≡_, refl}
-use mathlib.Core.Bool.{Bool, true, false, _&&_}
+use mathlib.Core.Path.{_≡_, refl, sym, _∙_}
+use mathlib.Core.Bool.{Bool, true, false, not, _&&_}
+use mathlib.Core.Logic.{_≢_}
 use mathlib.Core.List.{List, [], _∷_}
 use Prim.Native.Nat.{ℕ, min, _+_, _≤_, _<_}
+use native.Mathlib.Nat.{le-refl}
 use native.Mathlib.Omega.{arith}
-use lib.Dec.{ltb}
+use native.Mathlib.Decide.{decLe}
+use lib.Dec.{eqb, leb, ltb}
 use lib.ListN.{length}
-use borrow.Author.Tests.{lt-ltb, ltb-true}
+use borrow.Author.Tests.{lt-ltb, ltb-true, le-leb, eqb-true}
 use Rattle.event.specs.declared.Record.{Record}
+use Rattle.event.proofs.Bools.{and-left, and-right, or-left, or-right}
 use Rattle.window.specs.Window.{mostLines, lineOf}
 use Rattle.history.specs.Count.{last}
-use Rattle.history.specs.History.{History, is, storesLine}
-use Rattle.history.specs.Interval.{lastStore, intervalOf}
+use Rattle.history.specs.History.{History, is, fences, storesLine, writesBackLine}
+use Rattle.history.specs.Interval.{lastStore, closingFence}
 use Rattle.history.specs.Transaction.{outermost}
 use Rattle.history.specs.View.{ofHistory}
 use Rattle.history.specs.Given.{accepted, answers, reported}
-use Rattle.history.proofs.History.{is-latest}
-use Rattle.history.proofs.Interval.{last-store-on-line}
+use Rattle.history.specs.Image.{Forced}
+use Rattle.history.proofs.History.{is-last, is-latest}
+use Rattle.history.proofs.Interval.{last-store-on-line, closing-stored, forced-closes}
+use Rattle.history.proofs.Tests.{not-zero}
 use Rattle.tables.specs.declared.Run.{Run}
 use Rattle.tables.specs.Table.{entry}
-use Rattle.tables.specs.View.{intervalFrom, ofRun}
+use Rattle.tables.specs.View.{sinceStore, lineOpen, ofRun}
+use Rattle.tables.proofs.SinceStore.{open-by}
 use Rattle.events.specs.Give.{nextOf}
 use Rattle.engine.specs.Call.{emptyRun}
 use Rattle.engine.specs.Given.{runAfter, outcomes}
 use Rattle.engine.specs.Tracks.{Tracks}
-use Rattle.engine.proofs.Epochs.{interval-from}
+use Rattle.engine.proofs.ClosingFence.{lastBack}
 use Rattle.engine.proofs.OneEvent.{Follows, findings-next, follows-next}
 use Rattle.engine.proofs.FreshWindow.{fresh-follows}
 use Rattle.engine.proofs.Answered.{Answered, answered}
 
--- the interval of a byte, from the tables
-same-interval : {lines : ℕ} {h : History} {run : Run} → Tracks lines h run → (b : ℕ) →
-    intervalFrom (entry (run .stored) b) (entry (run .opened) b) (entry (run .closed) b) ≡ intervalOf h b
-same-interval {h = h} t b = rw (t .stored b, t .opened b, t .closed b) (interval-from h b)
+-- the closing fence of a byte, from the tables
+pub same-closing : {lines : ℕ} {h : History} {run : Run} → Tracks lines h run → (b : ℕ) →
+    sinceStore (entry (run .stored) b) (entry (run .fenced) b) ≡ closingFence h b
+same-closing t b = rw (t .stored b) (t .fenced b)
+
+-- a line that has an open byte may have one: a write-back after its last store and a fence after that would have closed the byte
+open-line : (h : History) (b : ℕ) → let fence = last (is fences h) (length h) in let dirtied = last (is (storesLine (lineOf b)) h) (length h) in
+    not (eqb (lastStore h b) 0) && eqb (closingFence h b) 0 ≡ true → lineOpen fence dirtied (lastBack h (lineOf b)) ≡ true
+open-line h b e = go (decLe back dirtied) (decLe fence back)
+  where
+    fence : ℕ
+    fence = last (is fences h) (length h)
+
+    dirtied : ℕ
+    dirtied = last (is (storesLine (lineOf b)) h) (length h)
+
+    back : ℕ
+    back = lastBack h (lineOf b)
+
+    stored : lastStore h b ≢ 0
+    stored = not-zero (lastStore h b) (and-left (not (eqb (lastStore h b) 0)) (eqb (closingFence h b) 0) e)
+
+    closed : dirtied < back → back < fence → Forced h (lineOf b) (lastStore h b) fence
+    closed k j =
+        record {
+          back = back;
+          fence = fence;
+          after = omega (arith, k, is-latest (storesLine (lineOf b)) h (lastStore h b) (last-store-on-line h b stored));
+          isBack = is-last (writesBackLine (lineOf b)) h (λ z. omega (arith, k, z));
+          later = j;
+          isFence = is-last fences h (λ z. omega (arith, j, z));
+          by = le-refl fence;
+        }
+
+    go : Dec (back ≤ dirtied) → Dec (fence ≤ back) → lineOpen fence dirtied back ≡ true
+    go (yes k) d = or-left (leb fence back) (le-leb back dirtied k)
+    go (no k) (yes j) = or-right (leb back dirtied) (le-leb fence back j)
+    go (no k) (no j) =
+        absurd
+        (forced-closes h (closed (omega (arith, k)) (omega (arith, j))) .there
+        (sym (closing-stored h b stored) ∙ eqb-true (closingFence h b) 0 (and-right (not (eqb (lastStore h b) 0)) (eqb (closingFence h b) 0) e)))
+
+same-risk : {lines : ℕ} {h : History} {run : Run} → Tracks lines h run → (b : ℕ) → ofRun run .risk b ≡ ofHistory lines h .risk b
+same-risk {h = h} {run = run} t b =
+    rw (t .latestFence, t .dirtied (lineOf b), t .backed (lineOf b), t .stored b, ← open-by (lastStore h b) (entry (run .fenced) b), t .fenced b)
+    (implied _ _ (open-line h b))
+  where
+    implied : (a b : Bool) → (b ≡ true → a ≡ true) → a && b ≡ b
+    implied true b f = refl
+    implied false true f = f refl
+    implied false false f = refl
 
 -- a byte that was stored to since an event is on a line that was
 line-since : (h : History) (n b : ℕ) → (ltb n (last (is (storesLine (lineOf b)) h) (length h)) && ltb n (lastStore h b)) ≡ ltb n (lastStore h b)
@@ -66,7 +120,8 @@ same-view {lines} {h} {run} m t =
       lastStore = λ b. t .stored b i;
       lastLog = λ b. t .logged b i;
       storedSince = λ b. same-since t b i;
-      interval = λ b. same-interval t b i;
+      risk = λ b. same-risk t b i;
+      closing = λ b. same-closing t b i;
       lineStore = λ l. t .dirtied l i;
       lineBack = λ l. t .backed l i;
     }

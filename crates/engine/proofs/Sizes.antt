@@ -11,8 +11,10 @@ use Rattle.tables.proofs.Table.{changed-length}
 pub record Sized (run : Run) : Type 0 where
   pub stored : length (run .stored) ≡ 4096
   pub logged : length (run .logged) ≡ 4096
+  pub fenced : length (run .fenced) ≡ 4096
   pub opened : length (run .opened) ≡ 4096
   pub closed : length (run .closed) ≡ 4096
+  pub written : length (run .written) ≡ 4096
   pub dirtied : length (run .dirtied) ≡ 64
   pub backed : length (run .backed) ≡ 64
 
@@ -23,8 +25,10 @@ sized-next run s (Store a) =
     record {
       stored = rw changed-length (s .stored);
       logged = s .logged;
+      fenced = s .fenced;
       opened = rw changed-length (s .opened);
-      closed = rw changed-length (s .closed);
+      closed = s .closed;
+      written = s .written;
       dirtied = rw changed-length (s .dirtied);
       backed = s .backed;
     }
@@ -32,8 +36,10 @@ sized-next run s (WriteBack a) =
     record {
       stored = s .stored;
       logged = s .logged;
+      fenced = s .fenced;
       opened = s .opened;
       closed = s .closed;
+      written = rw changed-length (s .written);
       dirtied = s .dirtied;
       backed = rw changed-length (s .backed);
     }
@@ -41,8 +47,10 @@ sized-next run s Fence =
     record {
       stored = s .stored;
       logged = s .logged;
+      fenced = rw changed-length (s .fenced);
       opened = s .opened;
       closed = rw changed-length (s .closed);
+      written = s .written;
       dirtied = s .dirtied;
       backed = s .backed;
     }
@@ -51,8 +59,10 @@ sized-next run s (Log a) =
     record {
       stored = s .stored;
       logged = rw changed-length (s .logged);
+      fenced = s .fenced;
       opened = s .opened;
       closed = s .closed;
+      written = s .written;
       dirtied = s .dirtied;
       backed = s .backed;
     }

@@ -1,7 +1,7 @@
 -- What a call on a run answers, in the paper's numbers.
 use mathlib.Core.List.{[], _∷_}
 use Rattle.event.specs.Numbers.{numberOf}
-use Rattle.event.specs.Reply.{Reply, checkReply, answerReply, intervalValues}
+use Rattle.event.specs.Reply.{Reply, checkReply, answerReply, namedValues}
 use Rattle.events.specs.declared.Given.{Given}
 use Rattle.engine.specs.declared.Window.{Window}
 use Rattle.engine.specs.declared.Asked.{Asked}
@@ -17,10 +17,10 @@ windowReply w = checkReply (w .check)
 abbrev pub givenReply : Given → Reply
 givenReply g = answerReply (g .answer)
 
--- a byte asked: the epochs of its interval
+-- a byte asked: the epochs of its interval, and then its events
 abbrev pub askedReply : Asked → Reply
 askedReply (AskRefused x) = Reply.refused (numberOf x) 0
-askedReply (Known i) = Reply.values (intervalValues i)
+askedReply (Known i) = Reply.values (namedValues i)
 
 -- a closing: events, fences and the count of findings other than none
 abbrev pub closingReply : Closing → Reply

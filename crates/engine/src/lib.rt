@@ -1,6 +1,6 @@
 // The engine: a run of tables that answers each event as it is given.
 use event::Check;
-use event::Interval;
+use event::NamedInterval;
 use event::Range;
 use event::Record;
 use event::Refusal;
@@ -19,7 +19,7 @@ pub struct Window {
 // A byte asked.
 pub enum Asked {
     Refused(Refusal),
-    Known(Interval),
+    Known(NamedInterval),
 }
 
 // A run closed. `findings` counts those other than none.
@@ -40,8 +40,10 @@ fn empty_run(lines: u16) -> Run
         counts: tables::no_counts(lines),
         stored: [0; 4096],
         logged: [0; 4096],
+        fenced: [0; 4096],
         opened: [0; 4096],
         closed: [0; 4096],
+        written: [0; 4096],
         dirtied: [0; 64],
         backed: [0; 64],
     }
@@ -70,16 +72,20 @@ pub fn give(run: Run, r: Record) -> Given
     let counts = run.counts;
     let mut stored = run.stored;
     let mut logged = run.logged;
+    let mut fenced = run.fenced;
     let mut opened = run.opened;
     let mut closed = run.closed;
+    let mut written = run.written;
     let mut dirtied = run.dirtied;
     let mut backed = run.backed;
     let step = events::step(
         counts,
         &mut stored,
         &mut logged,
+        &mut fenced,
         &mut opened,
         &mut closed,
+        &mut written,
         &mut dirtied,
         &mut backed,
         r,
@@ -92,15 +98,17 @@ pub fn give(run: Run, r: Record) -> Given
             counts: next,
             stored,
             logged,
+            fenced,
             opened,
             closed,
+            written,
             dirtied,
             backed,
         },
     }
 }
 
-// The persist interval of a byte, or 9 where the byte is past the window.
+// The persist interval of a byte with its events, or 9 where the byte is past the window.
 pub fn ask(run: Run, byte: u16) -> Asked
     ensures { λ a. ⌜ a ≡ askOf run byte ⌝ }
 {
@@ -113,9 +121,11 @@ pub fn ask(run: Run, byte: u16) -> Asked
     }
     let b = byte as usize;
     let store = run.stored[b];
+    let fenced = run.fenced[b];
     let opened = run.opened[b];
     let closed = run.closed[b];
-    Asked::Known(tables::interval_from(store, opened, closed))
+    let written = run.written[b];
+    Asked::Known(tables::named_from(store, fenced, opened, closed, written))
 }
 
 // The totals of a run, or 13 where a transaction is open. The run may go on.

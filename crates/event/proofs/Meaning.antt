@@ -4,6 +4,9 @@ use mathlib.Core.Path.{_≡_, refl}
 use mathlib.Core.Logic.{_≢_}
 use mathlib.Core.List.{[], _∷_, map}
 use native.Mathlib.Omega.{arith}
+use Prim.Native.Nat.{ℕ}
+use Rattle.event.specs.declared.NamedInterval.the-variants.{None as NoneNamed, Open as OpenNamed, Closed as ClosedNamed}
+use Rattle.event.specs.Reply.{intervalValues, namedValues, withoutEvents}
 use Rattle.event.specs.declared.Refusal.{Refusal}
 use Rattle.event.specs.declared.Refusal.the-variants.{TraceTooShort, TraceTooLong, MarkDiffers, BadLines, LengthDiffers, UnknownKind, FieldSet, PastWindow, EventsExhausted, NoTransaction, TooDeep, TransactionOpen, AreaTooShort, FileAreaTooShort, PageAreaTooShort, NoByteClosed}
 use Rattle.event.specs.Numbers.{numberOf}
@@ -33,3 +36,15 @@ no-eight AreaTooShort e = omega (arith, e)
 no-eight FileAreaTooShort e = omega (arith, e)
 no-eight PageAreaTooShort e = omega (arith, e)
 no-eight NoByteClosed e = omega (arith, e)
+
+-- the answer of a byte asked: nothing; the epoch, the last store and the write-back; both epochs, the last store, the write-back and the fence
+pub named-numbered : (opened closed store back fence : ℕ) →
+    map namedValues (NoneNamed ∷ OpenNamed opened store back ∷ ClosedNamed opened closed store back fence ∷ []) ≡
+    [] ∷ (opened ∷ store ∷ back ∷ []) ∷ (opened ∷ closed ∷ store ∷ back ∷ fence ∷ []) ∷ []
+named-numbered opened closed store back fence = refl
+
+-- without its events it has the epochs alone
+pub epochs-left : (opened closed store back fence : ℕ) →
+    map (λ i. intervalValues (withoutEvents i)) (NoneNamed ∷ OpenNamed opened store back ∷ ClosedNamed opened closed store back fence ∷ []) ≡
+    [] ∷ (opened ∷ []) ∷ (opened ∷ closed ∷ []) ∷ []
+epochs-left opened closed store back fence = refl

@@ -5,6 +5,8 @@ use Prim.Native.Nat.{ℕ}
 use Rattle.event.specs.declared.Finding.{Finding}
 use Rattle.event.specs.declared.Interval.{Interval}
 use Rattle.event.specs.declared.Interval.the-variants.{None, Open, Closed}
+use Rattle.event.specs.declared.NamedInterval.{NamedInterval}
+use Rattle.event.specs.declared.NamedInterval.the-variants.{None as NoneNamed, Open as OpenNamed, Closed as ClosedNamed}
 use Rattle.event.specs.declared.Check.{Check}
 use Rattle.event.specs.declared.Check.the-variants.{Passed, Refused as Breaks}
 use Rattle.event.specs.declared.Answer.{Answer}
@@ -34,3 +36,15 @@ abbrev pub intervalValues : Interval → List ℕ
 intervalValues None = []
 intervalValues (Open e) = e ∷ []
 intervalValues (Closed e f) = e ∷ f ∷ []
+
+-- a byte asked: the epochs of its interval, and then the events of the last store, of the first write-back after it and of the fence
+abbrev pub namedValues : NamedInterval → List ℕ
+namedValues NoneNamed = []
+namedValues (OpenNamed opened store back) = opened ∷ store ∷ back ∷ []
+namedValues (ClosedNamed opened closed store back fence) = opened ∷ closed ∷ store ∷ back ∷ fence ∷ []
+
+-- the interval with its events dropped
+abbrev pub withoutEvents : NamedInterval → Interval
+withoutEvents NoneNamed = None
+withoutEvents (OpenNamed opened store back) = Open opened
+withoutEvents (ClosedNamed opened closed store back fence) = Closed opened closed

@@ -97,6 +97,24 @@ pub enum Interval {
     Closed(u16, u16),
 }
 
+// The same with the events that it goes by: the byte's last store, the first write-back of its line after it, 0 where there is none yet,
+// and the fence that closed it.
+pub enum NamedInterval {
+    None,
+    Open {
+        opened: u16,
+        store: u16,
+        back: u16,
+    },
+    Closed {
+        opened: u16,
+        closed: u16,
+        store: u16,
+        back: u16,
+        fence: u16,
+    },
+}
+
 // What an event that is given gets: a refusal, or its finding.
 pub enum Answer {
     Refused(Refusal),

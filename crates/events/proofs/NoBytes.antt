@@ -4,6 +4,7 @@ use mathlib.Core.Bool.{Bool}
 use mathlib.Core.List.{List}
 use mathlib.Core.Option.{Option, none}
 use Prim.Native.Nat.{ℕ}
+use native.Mathlib.Omega.{arith}
 use Rattle.event.specs.declared.Range.{Range}
 use Rattle.event.specs.declared.Event.{Event}
 use Rattle.event.specs.declared.Record.{Record}
@@ -12,7 +13,7 @@ use Rattle.event.specs.declared.Finding.the-variants.{None, Unlogged, LoggedTwi
 use Rattle.event.specs.declared.Check.{Check}
 use Rattle.event.specs.declared.Check.the-variants.{Passed}
 use Rattle.event.specs.declared.Answer.the-variants.{Found}
-use Rattle.window.specs.Window.{lineOf, lineCount}
+use Rattle.window.specs.Window.{windowBytes, lineOf, lineCount}
 use Rattle.history.specs.History.{OfNoBytes}
 use Rattle.history.specs.View.{View}
 use Rattle.history.specs.Refused.{refusalBy}
@@ -22,6 +23,7 @@ use Rattle.history.proofs.Meaning.NoBytes.{idle}
 use Rattle.tables.specs.declared.Run.{Run}
 use Rattle.tables.specs.Table.{changed, filledBytes, filledLines}
 use Rattle.tables.specs.View.{ofRun}
+use Rattle.intervals.specs.Now.{backedNow}
 use Rattle.events.specs.Next.{nextNumber, countsAfter, tablesAfter}
 use Rattle.events.specs.Give.{nextOf, oneEventMore, givenFor, giveOf}
 
@@ -58,10 +60,14 @@ next-unchanged run {e} (OfNoBytes.store {a = a} z) =
       idle (OfNoBytes.store {a = a} z) .noStore,
       no-bytes (nextNumber (run .counts)) a (run .stored) z,
       no-bytes (run .counts .fences) a (run .opened) z,
-      no-bytes 0 a (run .closed) z,
       no-line (nextNumber (run .counts)) a (run .dirtied) z,
     )
-next-unchanged run {e} (OfNoBytes.writeBack {a = a} z) = rw (no-line (nextNumber (run .counts)) a (run .backed) z)
+next-unchanged run {e} (OfNoBytes.writeBack {a = a} z) =
+    rw (
+      no-line (nextNumber (run .counts)) a (run .backed) z,
+      none-changed (backedNow (nextNumber (run .counts)) (run .stored)) (windowBytes (lineOf (a .address))) (windowBytes (lineCount a)) (run .written)
+          (omega (arith, no-lines a z)),
+    )
 next-unchanged run {e} (OfNoBytes.log {a = a} z) = rw (no-bytes (nextNumber (run .counts)) a (run .logged) z)
 
 pub nothing-else : (run : Run) (r : Record) → OfNoBytes (r .event) → refusalBy (ofRun run) (r .event) ≡ Passed →

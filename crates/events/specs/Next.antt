@@ -1,5 +1,6 @@
 -- The run after an accepted event: its numbers, and what each table then holds.
 use mathlib.Core.Bool.{Bool, cond, _&&_}
+use mathlib.Core.List.{List}
 use Prim.Native.Nat.{ℕ, suc, _%_, _^_}
 use lib.Dec.{ltb, eqb}
 use Rattle.event.specs.declared.Range.{Range}
@@ -7,7 +8,7 @@ use Rattle.event.specs.declared.Event.{Event}
 use Rattle.event.specs.declared.Event.the-variants.{Store, WriteBack, Fence, Begin, Log, End, Persisted, Ordered}
 use Rattle.event.specs.declared.Finding.{Finding}
 use Rattle.event.specs.Numbers.{isNone}
-use Rattle.window.specs.Window.{windowBytes, lineOf}
+use Rattle.window.specs.Window.{windowBytes, lineOf, lineCount}
 use Rattle.history.specs.History.{fences, begins, storesSome}
 use Rattle.history.specs.Transaction.{depthAfter}
 use Rattle.history.specs.Found.{atRisk}
@@ -15,6 +16,7 @@ use Rattle.tables.specs.declared.Counts.{Counts}
 use Rattle.tables.specs.declared.Run.{Run}
 use Rattle.tables.specs.Table.{changed, filledBytes, filledLines}
 use Rattle.tables.specs.View.{linesOf, runOf, ofRun}
+use Rattle.intervals.specs.Now.{backedNow, closedNow}
 
 -- the event's own number
 abbrev pub nextNumber : Counts → ℕ
@@ -59,7 +61,7 @@ closes run b =
     atRisk (ofRun run) b && ltb (ofRun run .lastStore b) (ofRun run .lineBack (lineOf b)) &&
     ltb (run .counts .fence) (ofRun run .lineBack (lineOf b))
 
--- a store: the last of its bytes and of its lines; the intervals of its bytes open
+-- a store: the last of its bytes and of its lines; the intervals of its bytes open at the epoch
 abbrev pub afterStore : Run → Range → Run
 afterStore run a =
     let n = nextNumber (run .counts) in
@@ -67,29 +69,57 @@ afterStore run a =
       counts = run .counts;
       stored = filledBytes n a (run .stored);
       logged = run .logged;
+      fenced = run .fenced;
       opened = filledBytes (run .counts .fences) a (run .opened);
-      closed = filledBytes 0 a (run .closed);
+      closed = run .closed;
+      written = run .written;
       dirtied = filledLines n a (run .dirtied);
       backed = run .backed;
     }
 
--- a write-back: the last of its lines
+-- a write-back: the last of its lines, and the first of those of their bytes that have had none since their last store
 abbrev pub afterBack : Run → Range → Run
 afterBack run a =
-    runOf (run .counts) (run .stored) (run .logged) (run .opened) (run .closed) (run .dirtied)
-    (filledLines (nextNumber (run .counts)) a (run .backed))
+    let n = nextNumber (run .counts) in
+    record {
+      counts = run .counts;
+      stored = run .stored;
+      logged = run .logged;
+      fenced = run .fenced;
+      opened = run .opened;
+      closed = run .closed;
+      written = changed (backedNow n (run .stored)) (windowBytes (lineOf (a .address))) (windowBytes (lineCount a)) (run .written);
+      dirtied = run .dirtied;
+      backed = filledLines n a (run .backed);
+    }
 
--- a fence: the epoch that it begins closes bytes of the window
+-- the closing fences after a fence: it closes bytes of the window
+abbrev pub fencedAfter : Run → List ℕ
+fencedAfter run =
+    changed (λ b old. cond (closes run b) (nextNumber (run .counts)) old) 0 (windowBytes (linesOf (run .counts))) (run .fenced)
+
+-- a fence: the epoch that it begins is the closing epoch of the bytes that it closes
 abbrev pub afterFence : Run → Run
 afterFence run =
-    runOf (run .counts) (run .stored) (run .logged) (run .opened)
-    (changed (λ b old. cond (closes run b) (oneMore (run .counts .fences)) old) 0 (windowBytes (linesOf (run .counts))) (run .closed))
-    (run .dirtied) (run .backed)
+    record {
+      counts = run .counts;
+      stored = run .stored;
+      logged = run .logged;
+      fenced = fencedAfter run;
+      opened = run .opened;
+      closed =
+          changed (closedNow (nextNumber (run .counts)) (oneMore (run .counts .fences)) (fencedAfter run)) 0 (windowBytes (linesOf (run .counts)))
+          (run .closed);
+      written = run .written;
+      dirtied = run .dirtied;
+      backed = run .backed;
+    }
 
 -- a log: the last of its bytes
 abbrev pub afterLog : Run → Range → Run
 afterLog run a =
-    runOf (run .counts) (run .stored) (filledBytes (nextNumber (run .counts)) a (run .logged)) (run .opened) (run .closed) (run .dirtied) (run .backed)
+    runOf (run .counts) (run .stored) (filledBytes (nextNumber (run .counts)) a (run .logged)) (run .fenced) (run .opened) (run .closed) (run .written)
+    (run .dirtied) (run .backed)
 
 -- the run with its tables as they are after the event, and its numbers as they were
 unfoldable pub tablesAfter : Run → Event → Run

@@ -1,7 +1,7 @@
 -- Mean exposure: "sum closing epoch less opening epoch over all bytes whose interval is closed, and divide by the number of such bytes."
 use mathlib.Core.Path.{_≡_}
 use mathlib.Core.Bool.{Bool, true, false, cond}
-use mathlib.Core.List.{List, [], _∷_}
+use mathlib.Core.List.{[], _∷_}
 use Prim.Native.Nat.{ℕ, zero, suc, _+_, _-_, _*_, _/_, _%_, _<_}
 use Rattle.event.specs.declared.Interval.{Interval}
 use Rattle.event.specs.declared.Interval.the-variants.{None, Open, Closed}
@@ -10,8 +10,7 @@ use Rattle.event.specs.Numbers.{numberOf}
 use Rattle.event.specs.Reply.{Reply}
 use Rattle.window.specs.Window.{windowBytes}
 use Rattle.tables.specs.declared.Run.{Run}
-use Rattle.tables.specs.Table.{entry}
-use Rattle.tables.specs.View.{intervalFrom, ofRun}
+use Rattle.tables.specs.View.{intervalIn, ofRun}
 use Rattle.exposure.specs.declared.Exposed.{Exposed}
 use Rattle.exposure.specs.declared.Exposed.the-variants.{Refused, Mean}
 use Rattle.exposure.specs.declared.Sums.{Sums}
@@ -60,13 +59,9 @@ meanOf sum (suc n) = Mean (sum / suc n) (sum % suc n) (suc n)
 abbrev pub exposureIn : (lines : ℕ) (interval : ℕ → Interval) → Exposed
 exposureIn lines interval = meanOf (sumOf interval (windowBytes lines)) (closedCount interval (windowBytes lines))
 
--- the intervals by the tables of a run
-abbrev pub intervalsIn : (stored opened closed : List ℕ) → ℕ → Interval
-intervalsIn stored opened closed b = intervalFrom (entry stored b) (entry opened b) (entry closed b)
-
 -- a run asked for its mean exposure, whatever run it is
 abbrev pub exposureOf : Run → Exposed
-exposureOf run = exposureIn (ofRun run .lines) (ofRun run .interval)
+exposureOf run = exposureIn (ofRun run .lines) (intervalIn (run .stored) (run .fenced) (run .opened) (run .closed))
 
 -- the answer in the paper's numbers
 abbrev pub exposureReply : Exposed → Reply

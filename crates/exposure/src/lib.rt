@@ -5,9 +5,9 @@ use tables::Counts;
 use tables::Run;
 ghost use mathlib.Core.Path.{_≡_};
 ghost use Prim.Native.Nat.{_-_, _*_, _≤_};
-ghost use Rattle.tables.specs.View.{linesOf};
+ghost use Rattle.tables.specs.View.{linesOf, intervalIn};
 ghost use Rattle.tables.specs.Table.{tableBytes};
-ghost use Rattle.exposure.specs.Exposure.{mostEpochs, epochsAtRisk, isClosed, oneIfClosed, sumsOf, meanOf, intervalsIn, exposureIn, exposureOf};
+ghost use Rattle.exposure.specs.Exposure.{mostEpochs, epochsAtRisk, isClosed, oneIfClosed, sumsOf, meanOf, exposureIn, exposureOf};
 
 // A refusal, by 17; or the mean: quotient × divisor + remainder epochs, over `divisor` bytes.
 pub enum Exposed {
@@ -62,9 +62,15 @@ fn one_if_closed(i: Interval) -> u16
 }
 
 // The sums over the first bytes of the tables, so many of them.
-fn sum_bytes(bytes: u16, stored: &[u16; 4096], opened: &[u16; 4096], closed: &[u16; 4096]) -> Sums
+fn sum_bytes(
+    bytes: u16,
+    stored: &[u16; 4096],
+    fenced: &[u16; 4096],
+    opened: &[u16; 4096],
+    closed: &[u16; 4096],
+) -> Sums
     requires { ⌜ bytes ≤ tableBytes ⌝ }
-    ensures { λ r. ⌜ r ≡ sumsOf (intervalsIn (now (stored .entry)) (now (opened .entry)) (now (closed .entry))) bytes ⌝ }
+    ensures { λ r. ⌜ r ≡ sumsOf (intervalIn (now (stored .entry)) (now (fenced .entry)) (now (opened .entry)) (now (closed .entry))) bytes ⌝ }
     ensures { λ r. ⌜ r .epochs ≤ mostEpochs * r .bytes ⌝ }
 {
     let mut epochs: u32 = 0;
@@ -72,7 +78,7 @@ fn sum_bytes(bytes: u16, stored: &[u16; 4096], opened: &[u16; 4096], closed: &[u
     let mut i: u16 = 0;
     while i < bytes {
         let b = i as usize;
-        let interval = tables::interval_from(stored[b], opened[b], closed[b]);
+        let interval = tables::interval_from(stored[b], fenced[b], opened[b], closed[b]);
         epochs += epochs_at_risk(interval) as u32;
         count += one_if_closed(interval);
         i += 1;
@@ -103,13 +109,14 @@ fn mean(epochs: u32, bytes: u16) -> Exposed
 pub fn exposure_of(
     counts: Counts,
     stored: &[u16; 4096],
+    fenced: &[u16; 4096],
     opened: &[u16; 4096],
     closed: &[u16; 4096],
 ) -> Exposed
-    ensures { λ r. ⌜ r ≡ exposureIn (linesOf counts) (intervalsIn (now (stored .entry)) (now (opened .entry)) (now (closed .entry))) ⌝ }
+    ensures { λ r. ⌜ r ≡ exposureIn (linesOf counts) (intervalIn (now (stored .entry)) (now (fenced .entry)) (now (opened .entry)) (now (closed .entry))) ⌝ }
 {
     let bytes = 64 * tables::lines_of(counts);
-    let s = sum_bytes(bytes, stored, opened, closed);
+    let s = sum_bytes(bytes, stored, fenced, opened, closed);
     mean(s.epochs, s.bytes)
 }
 
@@ -119,7 +126,8 @@ pub fn exposure(run: Run) -> Exposed
 {
     let counts = run.counts;
     let stored = run.stored;
+    let fenced = run.fenced;
     let opened = run.opened;
     let closed = run.closed;
-    exposure_of(counts, &stored, &opened, &closed)
+    exposure_of(counts, &stored, &fenced, &opened, &closed)
 }

@@ -18,10 +18,10 @@ abbrev pub durableAt : ℕ → List ℕ → Option ℕ → Finding
 durableAt number stored found = foundOr found Holds (λ b. Lost b number (entry stored b))
 
 -- an end: none if it is an inner one; else empty, or as a persisted over the bytes stored since the begin
-abbrev pub endedAt : ℕ → Counts → (stored closed dirtied : List ℕ) → Finding
-endedAt number counts stored closed dirtied =
+abbrev pub endedAt : ℕ → Counts → (stored fenced dirtied backed : List ℕ) → Finding
+endedAt number counts stored fenced dirtied backed =
     cond (eqb (counts .depth) 1)
     (cond (ltb (counts .begin) (counts .store))
-    (durableAt number stored (lowest (lostAtEnd (counts .begin) stored closed dirtied) 0 (windowBytes (linesOf counts))))
+    (durableAt number stored (lowest (lostAtEnd (counts .begin) (counts .fence) stored fenced dirtied backed) 0 (windowBytes (linesOf counts))))
     Empty)
     None

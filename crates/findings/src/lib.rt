@@ -13,12 +13,12 @@ ghost use Prim.Native.Nat.{ℕ, _<_};
 ghost use Rattle.history.specs.Found.{lowestIn, findingBy};
 ghost use Rattle.tables.specs.Table.{inTables};
 ghost use Rattle.tables.specs.View.{runOf, noCounts, ofRun};
-ghost use Rattle.searches.specs.Tests.{foundBy, passing};
+ghost use Rattle.searches.specs.Tests.{foundBy, openByte};
 ghost use Rattle.findings.specs.Findings.{durableAt, endedAt};
 
 // A store: unlogged, where a transaction is open.
 pub fn of_store(counts: Counts, logged: &[u16; 4096], a: Range) -> Finding
-    ensures { λ r. ⌜ r ≡ findingBy (ofRun (runOf counts [] (now (logged .entry)) [] [] [] [])) (Event.Store (inTables a)) ⌝ }
+    ensures { λ r. ⌜ r ≡ findingBy (ofRun (runOf counts [] (now (logged .entry)) [] [] [] [] [] [])) (Event.Store (inTables a)) ⌝ }
 {
     if counts.depth == 0 {
         return Finding::None;
@@ -33,7 +33,7 @@ pub fn of_store(counts: Counts, logged: &[u16; 4096], a: Range) -> Finding
 pub fn of_back(dirtied: &[u16; 64], backed: &[u16; 64], a: Range) -> Finding
     ensures { λ r. ⌜
         r ≡
-        findingBy (ofRun (runOf (noCounts 0) [] [] [] [] (now (dirtied .entry)) (now (backed .entry)))) (Event.WriteBack (inTables a))
+        findingBy (ofRun (runOf (noCounts 0) [] [] [] [] [] [] (now (dirtied .entry)) (now (backed .entry)))) (Event.WriteBack (inTables a))
         ⌝ }
 {
     match searches::first_line(Test::Wasted, dirtied, backed, a) {
@@ -52,7 +52,7 @@ pub fn of_back(dirtied: &[u16; 64], backed: &[u16; 64], a: Range) -> Finding
 
 // A log: logged twice.
 pub fn of_log(counts: Counts, logged: &[u16; 4096], a: Range) -> Finding
-    ensures { λ r. ⌜ r ≡ findingBy (ofRun (runOf counts [] (now (logged .entry)) [] [] [] [])) (Event.Log (inTables a)) ⌝ }
+    ensures { λ r. ⌜ r ≡ findingBy (ofRun (runOf counts [] (now (logged .entry)) [] [] [] [] [] [])) (Event.Log (inTables a)) ⌝ }
 {
     match searches::first_byte(Test::Since(counts.begin), logged, logged, a) {
         Search::Nothing => Finding::None,
@@ -78,15 +78,23 @@ fn lost_at(number: u16, stored: &[u16; 4096], s: Search) -> Finding
     }
 }
 
-// A persisted with this number: holds or lost.
-pub fn of_persisted(number: u16, stored: &[u16; 4096], closed: &[u16; 4096], a: Range) -> Finding
+// A persisted with this number, after this latest fence: holds or lost.
+pub fn of_persisted(
+    number: u16,
+    fence: u16,
+    stored: &[u16; 4096],
+    fenced: &[u16; 4096],
+    dirtied: &[u16; 64],
+    backed: &[u16; 64],
+    a: Range,
+) -> Finding
     ensures { λ r. ⌜
         r ≡
         durableAt number (now (stored .entry))
-        (lowestIn (passing (Test.OpenSince 0) (now (stored .entry)) (now (closed .entry))) (inTables a))
+        (lowestIn (openByte fence (now (stored .entry)) (now (fenced .entry)) (now (dirtied .entry)) (now (backed .entry))) (inTables a))
         ⌝ }
 {
-    let s = searches::first_open(0, stored, closed, a);
+    let s = searches::first_open(fence, stored, fenced, dirtied, backed, a);
     lost_at(number, stored, s)
 }
 
@@ -95,10 +103,13 @@ pub fn of_end(
     number: u16,
     counts: Counts,
     stored: &[u16; 4096],
-    closed: &[u16; 4096],
+    fenced: &[u16; 4096],
     dirtied: &[u16; 64],
+    backed: &[u16; 64],
 ) -> Finding
-    ensures { λ r. ⌜ r ≡ endedAt number counts (now (stored .entry)) (now (closed .entry)) (now (dirtied .entry)) ⌝ }
+    ensures { λ r. ⌜
+        r ≡ endedAt number counts (now (stored .entry)) (now (fenced .entry)) (now (dirtied .entry)) (now (backed .entry))
+        ⌝ }
 {
     if counts.depth != 1 {
         return Finding::None;
@@ -106,26 +117,20 @@ pub fn of_end(
     if counts.store <= counts.begin {
         return Finding::Empty;
     }
-    let s = searches::first_since_begin(counts, stored, closed, dirtied);
+    let s = searches::first_since_begin(counts, stored, fenced, dirtied, backed);
     lost_at(number, stored, s)
 }
 
 // An ordered: holds or out of order.
-pub fn of_ordered(
-    stored: &[u16; 4096],
-    opened: &[u16; 4096],
-    closed: &[u16; 4096],
-    a: Range,
-    b: Range,
-) -> Finding
+pub fn of_ordered(stored: &[u16; 4096], fenced: &[u16; 4096], a: Range, b: Range) -> Finding
     ensures { λ r. ⌜
         r ≡
         findingBy
-        (ofRun (runOf (noCounts 0) (now (stored .entry)) [] (now (opened .entry)) (now (closed .entry)) [] []))
+        (ofRun (runOf (noCounts 0) (now (stored .entry)) [] (now (fenced .entry)) [] [] [] [] []))
         (Event.Ordered (inTables a) (inTables b))
         ⌝ }
 {
-    match pairs::first_pair(stored, opened, closed, a, b) {
+    match pairs::first_pair(stored, fenced, a, b) {
         PairSearch::Nothing => Finding::Holds,
         PairSearch::At { kept, lost } => {
             let k = kept as usize;

@@ -1,5 +1,5 @@
 -- The computed finding of an event meets its claim.
-use mathlib.Core.Path.{_≡_, refl, sym, ap, subst, subst₂, _∙_}
+use mathlib.Core.Path.{_≡_, refl, sym, subst, subst₂, _∙_}
 use mathlib.Core.Bool.{Bool, true, false, cond, _&&_}
 use mathlib.Core.List.{_∷_}
 use mathlib.Core.Option.{Option, none, some}
@@ -24,13 +24,13 @@ use Rattle.history.specs.Interval.{lastStore}
 use Rattle.history.specs.Transaction.{depth, outermost, Since}
 use Rattle.history.specs.View.{ofHistory}
 use Rattle.history.specs.Broken.{PersistedBroken, noWord, meant}
-use Rattle.history.specs.Found.{lowest, atRisk, durable, breaks, inOrder, outermostEnd, findingBy, Pair, isOpen}
+use Rattle.history.specs.Found.{lowest, atRisk, durable, breaks, inOrder, outermostEnd, findingBy, Pair}
 use Rattle.history.specs.Assertion.{Shown, BrokenByte, Persists, BrokenPair, Orders}
 use Rattle.history.specs.Claim.{Ended, ClaimOf, Claim}
 use Rattle.history.proofs.Search.{Least, Decides, least, LeastPair, least-pair}
 use Rattle.history.proofs.Image.{risk-allowed, risk-loses, risk-broken, broken-risk, PairRisk, pair-allowed, pair-lost, pair-kept, pair-broken, broken-pair}
 use Rattle.history.proofs.Tests.{open-risk, risk-open, breaks-risk, risk-breaks}
-use Rattle.history.proofs.NoEffect.{NoEffect, last-store-unchanged, interval-unchanged}
+use Rattle.history.proofs.NoEffect.{NoEffect, last-store-unchanged, closing-unchanged}
 use Rattle.history.proofs.Warning.{warned, since-is, is-since, store-decides, log-decides, back-decides, written-back}
 
 -- every store that was accepted lies in the window
@@ -48,12 +48,15 @@ module _ (lines : ℕ) (h : History) (r : Record) (q : NoEffect (r .event)) wher
   abbrev n : ℕ
   n = suc (length h)
 
+  risk-now : (b : ℕ) → atRisk (ofHistory lines now) b ≡ atRisk (ofHistory lines h) b
+  risk-now b = simp (last-store-unchanged r h q, closing-unchanged r h q)
+
   -- a byte is broken exactly if its interval is open
   open-broken : (b : ℕ) → atRisk (ofHistory lines h) b ≡ true → PersistedBroken now n b
-  open-broken b e = risk-broken now b n (le-refl n) (open-risk now b (ap isOpen (interval-unchanged r h q b) ∙ e))
+  open-broken b e = risk-broken now b n (le-refl n) (open-risk now lines b (risk-now b ∙ e))
 
   broken-open : (b : ℕ) → PersistedBroken now n b → atRisk (ofHistory lines h) b ≡ true
-  broken-open b x = ap isOpen (sym (interval-unchanged r h q b)) ∙ risk-open now b (broken-risk now b n x)
+  broken-open b x = sym (risk-now b) ∙ risk-open now lines b (broken-risk now b n x)
 
   -- the image meant shows the loss
   shown : (b : ℕ) → PersistedBroken now n b → Shown now (meant now n b) n b
@@ -77,7 +80,7 @@ module _ (lines : ℕ) (h : History) (r : Record) (q : NoEffect (r .event)) wher
       }
 
   breaks-now : (kept lost : ℕ) → breaks (ofHistory lines now) kept lost ≡ breaks (ofHistory lines h) kept lost
-  breaks-now kept lost = simp (last-store-unchanged r h q, interval-unchanged r h q)
+  breaks-now kept lost = simp (last-store-unchanged r h q, closing-unchanged r h q)
 
   ordered-decides : (a b : Range) (kept : ℕ) → covers b kept ≡ true → Decides (breaks (ofHistory lines h) kept) (BrokenPair now n a b kept) (a .address) (a .length)
   ordered-decides a b kept c =

@@ -150,3 +150,9 @@ module _ (p : ℕ → Bool) where
       ⊎-elim (λ (e : i ≡ suc m). rw e (new-first s m (rw e at t) (rw e at h)))
       (λ (l : i ≤ m). kept-first s m i (first-earliest s m i t h l))
       (at-most-suc k)
+
+-- the first of tests that agree
+pub first-same : (p q : ℕ → Bool) (s m : ℕ) → ((i : ℕ) → i ≤ m → p i ≡ q i) → first p s m ≡ first q s m
+unfolding first
+first-same p q s zero h = refl
+first-same p q s (suc m) h = rw (h (suc m) (omega arith), first-same p q s m (λ i k. h i (omega arith)))

@@ -7,10 +7,13 @@ use native.Mathlib.Omega.{arith}
 use lib.ListN.{length}
 use Rattle.event.specs.declared.Interval.{Interval}
 use Rattle.event.specs.declared.Interval.the-variants.{None, Open, Closed}
+use Rattle.event.specs.declared.NamedInterval.{NamedInterval}
+use Rattle.event.specs.declared.NamedInterval.the-variants.{None as NoneNamed, Open as OpenNamed, Closed as ClosedNamed}
+use Rattle.event.specs.Reply.{withoutEvents}
 use Rattle.window.specs.Window.{lineOf}
 use Rattle.history.specs.Count.{first, ifSome}
 use Rattle.history.specs.History.{History, is, fences, storesByte, storesLine, writesBackLine}
-use Rattle.history.specs.Interval.{epochAt, lastStore, backAfter, fenceAfter, intervalOf}
+use Rattle.history.specs.Interval.{epochAt, lastStore, backAfter, fenceAfter, intervalOf, closingFence, firstBack, namedOf}
 use Rattle.history.specs.Image.{Forced}
 use Rattle.history.proofs.Count.{last-le, first-is, first-earliest}
 use Rattle.history.proofs.History.{is-implied, is-number, is-last, is-latest}
@@ -87,6 +90,25 @@ module _ (h : History) where
       let e : fenceAfter h l s ≡ first (is fences h) (backAfter h l s) (length h) = fence-after l s (w .there) in
       record { there = rw e (f .there); by = rw e (omega (arith, f .early, x .by)) }
 
+  -- of a byte stored to, it is that of its last store
+  pub closing-stored : (b : ℕ) → lastStore h b ≢ 0 → closingFence h b ≡ fenceAfter h (lineOf b) (lastStore h b)
+  unfolding closingFence
+  closing-stored b s = if-some (lastStore h b) 0 (λ s. fenceAfter h (lineOf b) s) s
+
+  -- and so is the first write-back
+  pub back-stored : (b : ℕ) → lastStore h b ≢ 0 → firstBack h b ≡ backAfter h (lineOf b) (lastStore h b)
+  unfolding firstBack
+  back-stored b s = if-some (lastStore h b) 0 (λ s. backAfter h (lineOf b) s) s
+
+  -- a byte never stored to has neither
+  pub closing-unstored : (b : ℕ) → lastStore h b ≡ 0 → closingFence h b ≡ 0
+  unfolding closingFence
+  closing-unstored b z = rw z
+
+  pub back-unstored : (b : ℕ) → lastStore h b ≡ 0 → firstBack h b ≡ 0
+  unfolding firstBack
+  back-unstored b z = rw z
+
   -- the interval's three cases
   pub interval-none : (b : ℕ) → lastStore h b ≡ 0 → intervalOf h b ≡ None
   unfolding intervalOf
@@ -108,3 +130,42 @@ module _ (h : History) where
   interval-closed b e z =
       interval-stored b e ∙
       if-some (fenceAfter h (lineOf b) (lastStore h b)) (Open (epochAt h (lastStore h b))) (λ f. Closed (epochAt h (lastStore h b)) (epochAt h f)) z
+
+  -- and those of the interval with its events
+  pub named-none : (b : ℕ) → lastStore h b ≡ 0 → namedOf h b ≡ NoneNamed
+  unfolding namedOf
+  named-none b e = rw e
+
+  module _ (b : ℕ) (stored : lastStore h b ≢ 0) where
+    abbrev s : ℕ
+    s = lastStore h b
+
+    abbrev named-open : NamedInterval
+    named-open = OpenNamed (epochAt h s) s (backAfter h (lineOf b) s)
+
+    abbrev named-closed : ℕ → NamedInterval
+    named-closed f = ClosedNamed (epochAt h s) (epochAt h f) s (backAfter h (lineOf b) s) f
+
+    pub named-stored : namedOf h b ≡ ifSome (fenceAfter h (lineOf b) s) named-open named-closed
+    unfolding namedOf
+    named-stored = if-some s NoneNamed _ stored
+
+  -- dropping the events gives the interval
+  pub named-interval : (b : ℕ) → withoutEvents (namedOf h b) ≡ intervalOf h b
+  unfolding namedOf intervalOf
+  named-interval b = go (lastStore h b)
+    where
+      closed : (s f : ℕ) →
+          withoutEvents (ifSome f (OpenNamed (epochAt h s) s (backAfter h (lineOf b) s)) (λ f. ClosedNamed (epochAt h s) (epochAt h f) s (backAfter h (lineOf b) s) f)) ≡
+          ifSome f (Open (epochAt h s)) (λ f. Closed (epochAt h s) (epochAt h f))
+      closed s zero = refl
+      closed s (suc f) = refl
+
+      go : (s : ℕ) →
+          withoutEvents
+          (ifSome s NoneNamed (λ s.
+          ifSome (fenceAfter h (lineOf b) s) (OpenNamed (epochAt h s) s (backAfter h (lineOf b) s)) (λ f.
+          ClosedNamed (epochAt h s) (epochAt h f) s (backAfter h (lineOf b) s) f))) ≡
+          ifSome s None (λ s. ifSome (fenceAfter h (lineOf b) s) (Open (epochAt h s)) (λ f. Closed (epochAt h s) (epochAt h f)))
+      go zero = refl
+      go (suc s) = closed (suc s) (fenceAfter h (lineOf b) (suc s))

@@ -1,6 +1,7 @@
 -- The basic definitions in plain words: what each one says of the list of accepted events.
 pub mod Events
 pub mod Intervals
+pub mod ByEpochs
 pub mod Images
 pub mod Torn
 pub mod Refusals

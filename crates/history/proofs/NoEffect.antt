@@ -10,7 +10,7 @@ use Rattle.event.specs.declared.Event.{Event}
 use Rattle.event.specs.declared.Record.{Record}
 use Rattle.history.specs.Count.{count, last, first, orElse, ifSome}
 use Rattle.history.specs.History.{History, is, fences, storesByte, writesBackLine}
-use Rattle.history.specs.Interval.{epochAt, lastStore, backAfter, fenceAfter, intervalOf}
+use Rattle.history.specs.Interval.{epochAt, lastStore, backAfter, fenceAfter, intervalOf, closingFence, namedOf}
 use Rattle.history.proofs.History.{is-unchanged, is-beyond}
 
 -- one more number that fails
@@ -49,12 +49,24 @@ module _ (r : Record) (h : History) (q : NoEffect (r .event)) where
   unfolding epochAt
   epoch-unchanged m = ap (λ (p : ℕ → Bool). count p m) (is-unchanged fences r h (q .noFence))
 
+  back-after-unchanged : (l s : ℕ) → backAfter (r ∷ h) l s ≡ backAfter h l s
+  unfolding backAfter
+  back-after-unchanged l s = is-first-unchanged (writesBackLine l) r h s (q .noBack l)
+
   fence-after-unchanged : (l s : ℕ) → fenceAfter (r ∷ h) l s ≡ fenceAfter h l s
-  unfolding fenceAfter backAfter
+  unfolding fenceAfter
   fence-after-unchanged l s =
-      ap (λ (w : ℕ). ifSome w 0 (λ w. first (is fences (r ∷ h)) w (length (r ∷ h)))) (is-first-unchanged (writesBackLine l) r h s (q .noBack l)) ∙
-      ap (λ (f : ℕ → ℕ). ifSome (first (is (writesBackLine l) h) s (length h)) 0 f) (fun-ext (λ w. is-first-unchanged fences r h w (q .noFence)))
+      ap (λ (w : ℕ). ifSome w 0 (λ w. first (is fences (r ∷ h)) w (length (r ∷ h)))) (back-after-unchanged l s) ∙
+      ap (λ (f : ℕ → ℕ). ifSome (backAfter h l s) 0 f) (fun-ext (λ w. is-first-unchanged fences r h w (q .noFence)))
+
+  pub closing-unchanged : (b : ℕ) → closingFence (r ∷ h) b ≡ closingFence h b
+  unfolding closingFence
+  closing-unchanged b = simp (last-store-unchanged, fence-after-unchanged)
 
   pub interval-unchanged : (b : ℕ) → intervalOf (r ∷ h) b ≡ intervalOf h b
   unfolding intervalOf
   interval-unchanged b = simp (last-store-unchanged, fence-after-unchanged, epoch-unchanged)
+
+  pub named-unchanged : (b : ℕ) → namedOf (r ∷ h) b ≡ namedOf h b
+  unfolding namedOf
+  named-unchanged b = simp (last-store-unchanged, back-after-unchanged, fence-after-unchanged, epoch-unchanged)

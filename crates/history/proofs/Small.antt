@@ -3,7 +3,7 @@ use mathlib.Core.Path.{_≡_, refl}
 use mathlib.Core.List.{[], map}
 use Rattle.history.specs.Count.{count, last, first}
 use Rattle.history.specs.History.{is}
-use Rattle.history.specs.Interval.{epochAt, lastStore, backAfter, fenceAfter, intervalOf}
+use Rattle.history.specs.Interval.{lastStore, backAfter, fenceAfter, closingFence}
 use Rattle.history.specs.Transaction.{depth, outermost}
 use Rattle.history.specs.Found.{lowest, lowestPair, findingBy}
 use Rattle.history.specs.Refused.{refusalBy}
@@ -11,5 +11,5 @@ use Rattle.history.specs.Given.{answerOf, answers}
 use Rattle.history.specs.Small.{SmallRun, smallRuns, recorded, foundAll}
 
 pub small-runs : map (λ (run : SmallRun). answers 2 [] (recorded (run .given))) smallRuns ≡ map (λ (run : SmallRun). foundAll (run .findings)) smallRuns
-unfolding count last first is epochAt lastStore backAfter fenceAfter intervalOf depth outermost lowest lowestPair findingBy refusalBy answerOf answers
+unfolding count last first is lastStore backAfter fenceAfter closingFence depth outermost lowest lowestPair findingBy refusalBy answerOf answers
 small-runs = refl

@@ -1,5 +1,5 @@
 -- The finding of an event, computed from what a judge asks of the run before it.
-use mathlib.Core.Bool.{Bool, true, false, cond, not, _&&_, _||_}
+use mathlib.Core.Bool.{Bool, cond, not, _&&_, _||_}
 use mathlib.Core.Option.{Option, none, some}
 use Prim.Native.Nat.{ℕ, zero, suc}
 use lib.Dec.{leb, ltb, eqb}
@@ -8,8 +8,6 @@ use Rattle.event.specs.declared.Event.{Event}
 use Rattle.event.specs.declared.Event.the-variants.{Store, WriteBack, Fence, Begin, Log, End, Persisted, Ordered}
 use Rattle.event.specs.declared.Finding.{Finding}
 use Rattle.event.specs.declared.Finding.the-variants.{None, Holds, Lost, OutOfOrder, Unlogged, Clean, WrittenTwice, LoggedTwice, Empty}
-use Rattle.event.specs.declared.Interval.{Interval}
-use Rattle.event.specs.declared.Interval.the-variants.{None as NoInterval, Open, Closed}
 use Rattle.window.specs.Window.{windowBytes, lineOf, wordOf, lineStart, lineCount}
 use Rattle.history.specs.View.{View}
 
@@ -51,40 +49,26 @@ writtenTwice v l = not (clean v l) && ltb (v .lineStore l) (v .lineBack l)
 abbrev pub warnedLine : View → ℕ → Finding
 warnedLine v l = cond (clean v l) (Clean (lineStart l)) (WrittenTwice (lineStart l))
 
--- the byte's interval is open: its last store may be lost
-abbrev pub isOpen : Interval → Bool
-isOpen NoInterval = false
-isOpen (Open e) = true
-isOpen (Closed e f) = false
-
--- a persisted is broken at the byte
+-- a persisted is broken at the byte: its interval is open, so its last store may be lost
 abbrev pub atRisk : View → ℕ → Bool
-atRisk v b = isOpen (v .interval b)
+atRisk v b = v .risk b
 
 -- holds, or lost at the byte found; the event's own number is the moment
 abbrev pub durable : View → Option ℕ → Finding
 durable v found = foundOr found Holds (λ b. Lost b (suc (v .events)) (v .lastStore b))
 
--- the epoch at which an interval opened, 0 where there is none
-abbrev pub openedAt : Interval → ℕ
-openedAt NoInterval = 0
-openedAt (Open e) = e
-openedAt (Closed e f) = e
-
--- the interval was closed by an epoch
-abbrev pub closedBy : Interval → ℕ → Bool
-closedBy NoInterval k = false
-closedBy (Open e) k = false
-closedBy (Closed e f) k = leb f k
+-- the byte's interval was closed by event m
+abbrev pub closedBy : View → ℕ → ℕ → Bool
+closedBy v b m = not (eqb (v .closing b) 0) && leb (v .closing b) m
 
 -- a crash may keep the first byte and lose the second. Both were stored to; on one line the kept store is the older, or one store set
--- both in different words; and on two lines the lost byte's interval was not closed by the epoch of the kept store
+-- both in different words; and on two lines the lost byte's interval was not closed by the kept store
 abbrev pub breaks : View → ℕ → ℕ → Bool
 breaks v kept lost =
     not (eqb (v .lastStore kept) 0) && not (eqb (v .lastStore lost) 0) &&
     cond (eqb (lineOf kept) (lineOf lost))
     (ltb (v .lastStore kept) (v .lastStore lost) || eqb (v .lastStore kept) (v .lastStore lost) && not (eqb (wordOf kept) (wordOf lost)))
-    (not (closedBy (v .interval lost) (openedAt (v .interval kept))))
+    (not (closedBy v lost (v .lastStore kept)))
 
 -- a kept byte and a lost one
 pub record Pair : Type 0 where

@@ -3,6 +3,8 @@ use Prim.Native.Nat.{ℕ}
 use lib.ListN.{length}
 use Rattle.event.specs.declared.Interval.{Interval}
 use Rattle.event.specs.declared.Interval.the-variants.{None, Open, Closed}
+use Rattle.event.specs.declared.NamedInterval.{NamedInterval}
+use Rattle.event.specs.declared.NamedInterval.the-variants.{None as NoneNamed, Open as OpenNamed, Closed as ClosedNamed}
 use Rattle.window.specs.Window.{lineOf}
 use Rattle.history.specs.Count.{count, last, first, ifSome}
 use Rattle.history.specs.History.{History, is, fences, storesByte, writesBackLine}
@@ -29,3 +31,19 @@ intervalOf h b =
     ifSome (lastStore h b) None (λ s.
     ifSome (fenceAfter h (lineOf b) s) (Open (epochAt h s)) (λ f.
     Closed (epochAt h s) (epochAt h f)))
+
+-- the fence that closed it, 0 where none has
+unfoldable pub closingFence : History → ℕ → ℕ
+closingFence h b = ifSome (lastStore h b) 0 (λ s. fenceAfter h (lineOf b) s)
+
+-- the first write-back of its line after its last store, 0 where there is none
+unfoldable pub firstBack : History → ℕ → ℕ
+firstBack h b = ifSome (lastStore h b) 0 (λ s. backAfter h (lineOf b) s)
+
+-- the same interval with "the event of the last store, of the first write-back of the line after it (0 if none yet) and, when closed, of
+-- the fence"
+unfoldable pub namedOf : History → ℕ → NamedInterval
+namedOf h b =
+    ifSome (lastStore h b) NoneNamed (λ s.
+    ifSome (fenceAfter h (lineOf b) s) (OpenNamed (epochAt h s) s (backAfter h (lineOf b) s)) (λ f.
+    ClosedNamed (epochAt h s) (epochAt h f) s (backAfter h (lineOf b) s) f))

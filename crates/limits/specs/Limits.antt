@@ -3,7 +3,6 @@ use mathlib.Core.Bool.{false}
 use Prim.Native.Nat.{ℕ}
 use lib.ListN.{drop}
 use Rattle.event.specs.declared.Event.{Event}
-use Rattle.event.specs.declared.Interval.the-variants.{None}
 use Rattle.event.specs.declared.Check.{Check}
 use Rattle.history.specs.View.{View}
 use Rattle.history.specs.Refused.{limitsBy, firstBroken}
@@ -20,7 +19,8 @@ numbersOf lines events depth =
       lastStore = λ b. 0;
       lastLog = λ b. 0;
       storedSince = λ b. false;
-      interval = λ b. None;
+      risk = λ b. false;
+      closing = λ b. 0;
       lineStore = λ l. 0;
       lineBack = λ l. 0;
     }

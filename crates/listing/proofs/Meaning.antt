@@ -16,7 +16,7 @@ use Rattle.event.specs.declared.Answer.the-variants.{Refused as NoFinding, Foun
 use Rattle.event.specs.Numbers.{fieldsOf}
 use Rattle.history.specs.Count.{count, last, first}
 use Rattle.history.specs.History.{History, is}
-use Rattle.history.specs.Interval.{epochAt, lastStore, backAfter, fenceAfter, intervalOf}
+use Rattle.history.specs.Interval.{epochAt, lastStore, backAfter, fenceAfter, closingFence}
 use Rattle.history.specs.Transaction.{depth}
 use Rattle.history.specs.Found.{lowest, lowestPair, findingBy}
 use Rattle.history.specs.Refused.{refusalBy}
@@ -57,7 +57,7 @@ pub whole-run : (area : List ℕ) → 108 ≤ length area → reportOf (traceByt
     ascii "7 16 written-twice 0 0 0 0\n" ++
     ascii "9 18 holds 0 0 0 0\n" ++
     ascii "end 4\n"
-unfolding count last first is epochAt lastStore backAfter fenceAfter intervalOf depth lowest lowestPair findingBy refusalBy
+unfolding count last first is epochAt lastStore backAfter fenceAfter closingFence depth lowest lowestPair findingBy refusalBy
     answerOf accepted answers reported sameBytes trailerOf recordsOf eventsOf checkFrom recordsBytes decimalIn
     headLine field values columns findingLine footLine findingLines verdictOf reportOf
 whole-run area k = rw (le-ltb (length area) 108 k)

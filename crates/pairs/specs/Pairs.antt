@@ -16,22 +16,22 @@ unfoldable pub pairSearched : Option Pair → PairSearch
 pairSearched none = Nothing
 pairSearched (some p) = At (p .kept) (p .lost)
 
--- a crash may keep the first byte and lose the second: by their last stores, whether one line has both and whether one word has, the
--- epoch at which the kept byte's interval opened, and that at which the lost byte's closed
-abbrev pub isBroken : ℕ → ℕ → Bool → Bool → ℕ → ℕ → Bool
-isBroken keptStore lostStore oneLine oneWord opened closed =
+-- a crash may keep the first byte and lose the second: by their last stores, whether one line has both and whether one word has, and the
+-- fence that closed the lost byte's interval; on two lines if that fence is older than the lost store or younger than the kept one
+abbrev pub isBroken : ℕ → ℕ → Bool → Bool → ℕ → Bool
+isBroken keptStore lostStore oneLine oneWord fence =
     not (eqb keptStore 0) && not (eqb lostStore 0) &&
-    cond oneLine (ltb keptStore lostStore || eqb keptStore lostStore && not oneWord) (eqb closed 0 || ltb opened closed)
+    cond oneLine (ltb keptStore lostStore || eqb keptStore lostStore && not oneWord) (ltb fence lostStore || ltb keptStore fence)
 
 -- what is asked of a byte that it may keep
-abbrev pub keptOf : (stored opened : List ℕ) → ℕ → Kept
-keptOf stored opened b = record { store = entry stored b; opened = entry opened b; line = lineOf b; word = wordOf b }
+abbrev pub keptOf : (stored : List ℕ) → ℕ → Kept
+keptOf stored b = record { store = entry stored b; line = lineOf b; word = wordOf b }
 
 -- it may lose this byte and keep that one
-abbrev pub lostWith : (stored closed : List ℕ) → Kept → ℕ → Bool
-lostWith stored closed kept lost =
-    isBroken (kept .store) (entry stored lost) (eqb (kept .line) (lineOf lost)) (eqb (kept .word) (wordOf lost)) (kept .opened) (entry closed lost)
+abbrev pub lostWith : (stored fenced : List ℕ) → Kept → ℕ → Bool
+lostWith stored fenced kept lost =
+    isBroken (kept .store) (entry stored lost) (eqb (kept .line) (lineOf lost)) (eqb (kept .word) (wordOf lost)) (entry fenced lost)
 
 -- the two bytes are so
-abbrev pub brokenPair : (stored opened closed : List ℕ) → ℕ → ℕ → Bool
-brokenPair stored opened closed kept = lostWith stored closed (keptOf stored opened kept)
+abbrev pub brokenPair : (stored fenced : List ℕ) → ℕ → ℕ → Bool
+brokenPair stored fenced kept = lostWith stored fenced (keptOf stored kept)

@@ -14,59 +14,44 @@ pub enum PairSearch {
     At { kept: u16, lost: u16 },
 }
 
-// What is asked of a byte that a crash may keep: its last store, the epoch at which its interval opened, its line and its word.
+// What is asked of a byte that a crash may keep: its last store, its line and its word.
 struct Kept {
     store: u16,
-    opened: u16,
     line: u16,
     word: u16,
 }
 
 // Whether a crash may keep one byte and lose another. There is no branch, so that several bytes can be looked at at once.
-fn is_broken(
-    kept_store: u16,
-    lost_store: u16,
-    one_line: bool,
-    one_word: bool,
-    opened: u16,
-    closed: u16,
-) -> bool
-    ensures { λ r. ⌜ r ≡ isBroken «kept_store» «lost_store» «one_line» «one_word» opened closed ⌝ }
+fn is_broken(kept_store: u16, lost_store: u16, one_line: bool, one_word: bool, fence: u16) -> bool
+    ensures { λ r. ⌜ r ≡ isBroken «kept_store» «lost_store» «one_line» «one_word» fence ⌝ }
 {
     // With a kept store that is no 0 neither of these passes at a lost one that is.
     let later = kept_store < lost_store;
     let torn = (kept_store == lost_store) & !one_word;
-    let open = (lost_store != 0) & ((closed == 0) | (opened < closed));
+    let open = (lost_store != 0) & ((fence < lost_store) | (kept_store < fence));
     (kept_store != 0) & ((one_line & (later | torn)) | (!one_line & open))
 }
 
 // Whether a crash may lose byte b and keep this one.
-fn may_lose(stored: &[u16; 4096], closed: &[u16; 4096], kept: Kept, b: usize) -> bool
+fn may_lose(stored: &[u16; 4096], fenced: &[u16; 4096], kept: Kept, b: usize) -> bool
     requires { ⌜ b < 4096 ⌝ }
-    ensures { λ r. ⌜ r ≡ lostWith (now (stored .entry)) (now (closed .entry)) kept b ⌝ }
+    ensures { λ r. ⌜ r ≡ lostWith (now (stored .entry)) (now (fenced .entry)) kept b ⌝ }
 {
     let lost = b as u16;
     let one_line = kept.line == lost / 64;
     let one_word = kept.word == lost / 8;
-    is_broken(
-        kept.store,
-        stored[b],
-        one_line,
-        one_word,
-        kept.opened,
-        closed[b],
-    )
+    is_broken(kept.store, stored[b], one_line, one_word, fenced[b])
 }
 
 // Whether it may lose one of the n bytes from `at` on.
-fn any_lost(stored: &[u16; 4096], closed: &[u16; 4096], kept: Kept, at: usize, n: usize) -> bool
+fn any_lost(stored: &[u16; 4096], fenced: &[u16; 4096], kept: Kept, at: usize, n: usize) -> bool
     requires { ⌜ at + n ≤ 4096 ⌝ }
-    ensures { λ r. ⌜ r ≡ isFound (lowest (lostWith (now (stored .entry)) (now (closed .entry)) kept) at n) ⌝ }
+    ensures { λ r. ⌜ r ≡ isFound (lowest (lostWith (now (stored .entry)) (now (fenced .entry)) kept) at n) ⌝ }
 {
     let mut found = false;
     let mut i = 0;
     while i < n {
-        found = found | may_lose(stored, closed, kept, at + i);
+        found = found | may_lose(stored, fenced, kept, at + i);
         i += 1;
     }
     found
@@ -74,14 +59,14 @@ fn any_lost(stored: &[u16; 4096], closed: &[u16; 4096], kept: Kept, at: usize, n
 
 // The n bytes from `at` on are looked at in groups of eight: the start of the first group of which it may lose a byte, or the place after
 // the last whole group.
-fn skip_lost(stored: &[u16; 4096], closed: &[u16; 4096], kept: Kept, at: usize, n: usize) -> usize
+fn skip_lost(stored: &[u16; 4096], fenced: &[u16; 4096], kept: Kept, at: usize, n: usize) -> usize
     requires { ⌜ at + n ≤ 4096 ⌝ }
-    ensures { λ r. ⌜ r ≡ skipped (lostWith (now (stored .entry)) (now (closed .entry)) kept) at (n / 8) ⌝ }
+    ensures { λ r. ⌜ r ≡ skipped (lostWith (now (stored .entry)) (now (fenced .entry)) kept) at (n / 8) ⌝ }
 {
     let end = at + n;
     let mut b = at;
     while b + 8 <= end {
-        if any_lost(stored, closed, kept, b, 8) {
+        if any_lost(stored, fenced, kept, b, 8) {
             return b;
         }
         b += 8;
@@ -93,8 +78,7 @@ fn skip_lost(stored: &[u16; 4096], closed: &[u16; 4096], kept: Kept, at: usize, 
 // loses with it.
 fn first_broken(
     stored: &[u16; 4096],
-    opened: &[u16; 4096],
-    closed: &[u16; 4096],
+    fenced: &[u16; 4096],
     at: usize,
     n: usize,
     start: usize,
@@ -105,7 +89,7 @@ fn first_broken(
         r ≡
         pairSearched
         (lowestPair
-        (brokenPair (now (stored .entry)) (now (opened .entry)) (now (closed .entry)))
+        (brokenPair (now (stored .entry)) (now (fenced .entry)))
         (record { address = at; length = n })
         start
         m)
@@ -118,17 +102,15 @@ fn first_broken(
     'kept: while kept < kept_end {
         let store = stored[kept];
         if store != 0 {
-            let epoch = opened[kept];
             let byte = kept as u16;
             let asked = Kept {
                 store: store,
-                opened: epoch,
                 line: byte / 64,
                 word: byte / 8,
             };
-            let mut lost = skip_lost(stored, closed, asked, at, n);
+            let mut lost = skip_lost(stored, fenced, asked, at, n);
             while lost < lost_end {
-                if may_lose(stored, closed, asked, lost) {
+                if may_lose(stored, fenced, asked, lost) {
                     found = PairSearch::At {
                         kept: byte,
                         lost: lost as u16,
@@ -144,18 +126,12 @@ fn first_broken(
 }
 
 // The lowest byte of B that a crash may keep while it loses one of A, and the lowest that it loses with it.
-pub fn first_pair(
-    stored: &[u16; 4096],
-    opened: &[u16; 4096],
-    closed: &[u16; 4096],
-    a: Range,
-    b: Range,
-) -> PairSearch
+pub fn first_pair(stored: &[u16; 4096], fenced: &[u16; 4096], a: Range, b: Range) -> PairSearch
     ensures { λ r. ⌜
         r ≡
         pairSearched
         (lowestPair
-        (brokenPair (now (stored .entry)) (now (opened .entry)) (now (closed .entry)))
+        (brokenPair (now (stored .entry)) (now (fenced .entry)))
         (inTables a)
         (inTables b .address)
         (inTables b .length))
@@ -165,8 +141,7 @@ pub fn first_pair(
     let kept = tables::in_tables(b);
     first_broken(
         stored,
-        opened,
-        closed,
+        fenced,
         lost.address as usize,
         lost.length as usize,
         kept.address as usize,

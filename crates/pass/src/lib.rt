@@ -37,8 +37,10 @@ pub fn give_records(
     start: Counts,
     stored: &mut [u16; 4096],
     logged: &mut [u16; 4096],
-    opened: &mut [u16; 4096],
-    closed: &mut [u16; 4096],
+    fenced: &mut [u16; 4096],
+    opened: &mut [u16],
+    closed: &mut [u16],
+    written: &mut [u16],
     dirtied: &mut [u16; 64],
     backed: &mut [u16; 64],
     buffer: &mut [u8],
@@ -47,19 +49,19 @@ pub fn give_records(
         r .check ≡
         recordsGiven count (now (records .entry))
         (stage
-        (runOf start (now (stored .entry)) (now (logged .entry)) (now (opened .entry)) (now (closed .entry))
-        (now (dirtied .entry)) (now (backed .entry)))
+        (runOf start (now (stored .entry)) (now (logged .entry)) (now (fenced .entry)) (now (opened .entry)) (now (closed .entry))
+        (now (written .entry)) (now (dirtied .entry)) (now (backed .entry)))
         (now (buffer .entry))) .check
         ⌝ }
     ensures { λ r. ⌜
         stage
-        (runOf (r .counts) (now (stored .exit)) (now (logged .exit)) (now (opened .exit)) (now (closed .exit))
-        (now (dirtied .exit)) (now (backed .exit)))
+        (runOf (r .counts) (now (stored .exit)) (now (logged .exit)) (now (fenced .exit)) (now (opened .exit)) (now (closed .exit))
+        (now (written .exit)) (now (dirtied .exit)) (now (backed .exit)))
         (now (buffer .exit)) ≡
         recordsGiven count (now (records .entry))
         (stage
-        (runOf start (now (stored .entry)) (now (logged .entry)) (now (opened .entry)) (now (closed .entry))
-        (now (dirtied .entry)) (now (backed .entry)))
+        (runOf start (now (stored .entry)) (now (logged .entry)) (now (fenced .entry)) (now (opened .entry)) (now (closed .entry))
+        (now (written .entry)) (now (dirtied .entry)) (now (backed .entry)))
         (now (buffer .entry))) .stage
         ⌝ }
 {
@@ -71,8 +73,10 @@ pub fn give_records(
             counts,
             stored,
             logged,
+            fenced,
             opened,
             closed,
+            written,
             dirtied,
             backed,
             trace::record_at(records, i),
@@ -97,7 +101,7 @@ pub fn give_records(
     Judged { check, counts }
 }
 
-// All records, from a fresh window.
+// All records, from a fresh window. No byte will be asked, so the tables that no finding goes by have no entry.
 pub fn judge_records(records: &[u8], count: u32, lines: u16, buffer: &mut [u8]) -> Judged
     ensures { λ r. ⌜ r .check ≡ allJudged count lines (now (records .entry)) (now (buffer .entry)) .check ⌝ }
     ensures { λ r. ⌜ r .counts ≡ allJudged count lines (now (records .entry)) (now (buffer .entry)) .stage .run .counts ⌝ }
@@ -105,8 +109,10 @@ pub fn judge_records(records: &[u8], count: u32, lines: u16, buffer: &mut [u8]) 
 {
     let mut stored = [0u16; 4096];
     let mut logged = [0u16; 4096];
-    let mut opened = [0u16; 4096];
-    let mut closed = [0u16; 4096];
+    let mut fenced = [0u16; 4096];
+    let mut opened = [0u16; 0];
+    let mut closed = [0u16; 0];
+    let mut written = [0u16; 0];
     let mut dirtied = [0u16; 64];
     let mut backed = [0u16; 64];
     give_records(
@@ -115,8 +121,10 @@ pub fn judge_records(records: &[u8], count: u32, lines: u16, buffer: &mut [u8]) 
         tables::no_counts(lines),
         &mut stored,
         &mut logged,
+        &mut fenced,
         &mut opened,
         &mut closed,
+        &mut written,
         &mut dirtied,
         &mut backed,
         buffer,

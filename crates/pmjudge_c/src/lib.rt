@@ -1,4 +1,5 @@
 // The judge for programs in C or Rust. The names of calls start with the library's, since a name is the whole program's, as in C.
+pub mod asking; // the persist interval of a byte after a trace
 pub mod exposing; // the mean exposure of traces
 pub mod printing; // findings laid out on pages
 pub mod writing; // the writer of traces
@@ -24,7 +25,7 @@ fn answer_of(v: Verdict) -> [u32; 5]
 }
 
 // Judges a trace into a findings area. What it answers, and what the caller has to see to (no null pointer, no byte shared), stands in
-// include/pmjudge.h. A call takes about 100 KB of the caller's stack: 65,520 bytes for findings and 33,024 for tables, and little more.
+// include/pmjudge.h. A call takes about 95 KB of the caller's stack: 65,520 bytes for findings and 24,832 for tables, and little more.
 #[no_mangle]
 pub extern "C" fn pmjudge_judge(trace: &[u8], area: &mut [u8], answer: &mut [u32; 5])
     ensures { λ _. ⌜ now (answer .exit) ≡ fiveNumbers (verdictReply (verdictOf (now (trace .entry)) (now (area .entry)))) ⌝ }

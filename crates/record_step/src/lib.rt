@@ -25,8 +25,10 @@ pub fn judge_record(
     counts: Counts,
     stored: &mut [u16; 4096],
     logged: &mut [u16; 4096],
-    opened: &mut [u16; 4096],
-    closed: &mut [u16; 4096],
+    fenced: &mut [u16; 4096],
+    opened: &mut [u16],
+    closed: &mut [u16],
+    written: &mut [u16],
     dirtied: &mut [u16; 64],
     backed: &mut [u16; 64],
     p: Parsed,
@@ -37,19 +39,19 @@ pub fn judge_record(
         s .answer ≡
         recordAnswer p
         (stage
-        (runOf counts (now (stored .entry)) (now (logged .entry)) (now (opened .entry)) (now (closed .entry))
-        (now (dirtied .entry)) (now (backed .entry)))
+        (runOf counts (now (stored .entry)) (now (logged .entry)) (now (fenced .entry)) (now (opened .entry)) (now (closed .entry))
+        (now (written .entry)) (now (dirtied .entry)) (now (backed .entry)))
         (now (buffer .entry)))
         ⌝ }
     ensures { λ s. ⌜
         stage
-        (runOf (s .counts) (now (stored .exit)) (now (logged .exit)) (now (opened .exit)) (now (closed .exit))
-        (now (dirtied .exit)) (now (backed .exit)))
+        (runOf (s .counts) (now (stored .exit)) (now (logged .exit)) (now (fenced .exit)) (now (opened .exit)) (now (closed .exit))
+        (now (written .exit)) (now (dirtied .exit)) (now (backed .exit)))
         (now (buffer .exit)) ≡
         recordGiven p at
         (stage
-        (runOf counts (now (stored .entry)) (now (logged .entry)) (now (opened .entry)) (now (closed .entry))
-        (now (dirtied .entry)) (now (backed .entry)))
+        (runOf counts (now (stored .entry)) (now (logged .entry)) (now (fenced .entry)) (now (opened .entry)) (now (closed .entry))
+        (now (written .entry)) (now (dirtied .entry)) (now (backed .entry)))
         (now (buffer .entry)))
         ⌝ }
 {
@@ -59,7 +61,18 @@ pub fn judge_record(
             counts,
         },
         Parsed::Read(r) => {
-            let s = events::step(counts, stored, logged, opened, closed, dirtied, backed, r);
+            let s = events::step(
+                counts,
+                stored,
+                logged,
+                fenced,
+                opened,
+                closed,
+                written,
+                dirtied,
+                backed,
+                r,
+            );
             let answer = s.answer;
             put_found(buffer, at, answer, r.site);
             s

@@ -1,19 +1,15 @@
 -- A search made part by part: over so many places in front, and then over what is left.
 use mathlib.Core.Path.{_≡_, refl, sym, _∙_, ap}
-use mathlib.Core.Bool.{Bool, true, false, cond, _&&_, _||_}
-use mathlib.Core.List.{List}
+use mathlib.Core.Bool.{Bool, true, false, cond, _||_}
 use mathlib.Core.Option.{Option, none, some}
 use Prim.Native.Nat.{ℕ, zero, suc, _+_, _-_, _*_, _/_, _≤_, _<_}
 use native.Mathlib.Omega.{arith}
 use native.Mathlib.Nat.{zero-add, add-zero}
 use native.Mathlib.Decide.{ℕ-discrete as decEq}
-use lib.Dec.{ltb}
 use Rattle.history.specs.Found.{lowest}
-use Rattle.searches.specs.declared.Test.the-variants.{OpenSince, Open}
 use Rattle.searches.specs.declared.Search.{Search}
 use Rattle.searches.specs.declared.Search.the-variants.{At}
-use Rattle.tables.specs.Table.{entry}
-use Rattle.searches.specs.Tests.{searched, isFound, passing, skipped}
+use Rattle.searches.specs.Tests.{searched, isFound, skipped}
 use Rattle.searches.proofs.FromFront.{left, left-all}
 
 -- what the first search found, or else what the second did
@@ -37,7 +33,7 @@ lowest-add p (suc m) n x =
     go false = refl
 
 -- what found nothing is none
-not-found : (found : Option ℕ) → isFound found ≡ false → found ≡ none
+pub not-found : (found : Option ℕ) → isFound found ≡ false → found ≡ none
 not-found none e = refl
 not-found (some x) e = let z : _≡_ {A = ℕ} 0 1 = cc in absurd (omega arith)
 
@@ -64,28 +60,6 @@ none-there p x (suc n) e k a b = go (p x) refl e (decEq k x) (none-there p (suc 
     go false h f (yes same) rest = rw same h
     go false h f (no d) rest = rest f k (omega arith) (omega arith)
 
--- where nothing passes a test, nothing passes a stronger one
-none-stronger : (p q : ℕ → Bool) → ((b : ℕ) → q b ≡ false → p b ≡ false) → (n x : ℕ) → lowest q x n ≡ none → lowest p x n ≡ none
-unfolding lowest
-none-stronger p q weaker zero x e = refl
-none-stronger p q weaker (suc n) x e = go (q x) refl e (none-stronger p q weaker n (suc x))
-  where
-    go : (t : Bool) → q x ≡ t → cond t (some x) (lowest q (suc x) n) ≡ none → (lowest q (suc x) n ≡ none → lowest p (suc x) n ≡ none) →
-        lowest p x (suc n) ≡ none
-    go true k f rest = let z : _≡_ {A = ℕ} 0 1 = cc in absurd (omega arith)
-    go false k f rest = rw (weaker x k) (rest f)
-
--- where no byte is open, none is open with a store after an event
-pub none-open : (event : ℕ) (stored closed : List ℕ) (at n : ℕ) → isFound (lowest (passing Open stored closed) at n) ≡ false →
-    lowest (passing (OpenSince event) stored closed) at n ≡ none
-none-open event stored closed at n e =
-    none-stronger (passing (OpenSince event) stored closed) (passing Open stored closed)
-    (λ b shut. rw shut (go (ltb event (entry stored b)))) n at (not-found (lowest (passing Open stored closed) at n) e)
-  where
-    go : (t : Bool) → t && false ≡ false
-    go true = refl
-    go false = refl
-
 -- what is left, as a part in front and what is left after it
 left-add : (p : ℕ → Bool) (end x m : ℕ) → x + m ≤ end → left p end x ≡ orNext (lowest p x m) (left p end (x + m))
 left-add p end x m h =
@@ -104,6 +78,15 @@ module _ (p : ℕ → Bool) (at n x : ℕ) (same : left p (at + n) x ≡ left p 
   part-here m {y} h e =
       let here : left p (at + n) x ≡ some y = left-add p (at + n) x m h ∙ rw e in
       ap searched (sym here ∙ same ∙ left-all p at n)
+
+  pub part-found : (m : ℕ) {s : Search} → x + m ≤ at + n → isFound (lowest p x m) ≡ true → s ≡ searched (lowest p x m) → s ≡ searched (lowest p at n)
+  part-found m {s} h e found = go (lowest p x m) refl e
+    where
+      go : (o : Option ℕ) → lowest p x m ≡ o → isFound o ≡ true → s ≡ searched (lowest p at n)
+      go none k f = let z : _≡_ {A = ℕ} 0 1 = cc in absurd (omega arith)
+      go (some y) k f =
+          let here : left p (at + n) x ≡ lowest p x m = left-add p (at + n) x m h ∙ (rw k) in
+          found ∙ ap searched (sym here ∙ same ∙ left-all p at n)
 
   -- it goes on after one in which nothing does
   pub part-later : (m : ℕ) → x + m ≤ at + n → lowest p x m ≡ none → left p (at + n) (x + m) ≡ left p (at + n) at

@@ -7,6 +7,7 @@ use lib.Dec.{ltb, eqb}
 use Rattle.window.specs.Window.{lineOf}
 use Rattle.history.specs.Found.{lowest}
 use Rattle.tables.specs.Table.{entry}
+use Rattle.tables.specs.View.{openLine}
 use Rattle.searches.specs.declared.Test.{Test}
 use Rattle.searches.specs.declared.Test.the-variants.{Since, NotSince, OpenSince, Open, Wasted}
 use Rattle.searches.specs.declared.Search.{Search}
@@ -33,18 +34,27 @@ skipped p at zero = at
 skipped p at (suc n) = let rest = skipped p (at + 8) n in cond (isFound (lowest p at 8)) at rest
 
 -- the entries of a byte or a line in two tables are what the test looks for: an event after this one in the first; none after it;
--- a store after it, and no closing epoch in the second; no closing epoch; no store in the first, or none since the last write-back in the second
+-- a store after it, and an older closing fence in the second; a store, and an older closing fence; no store in the first, or none since
+-- the last write-back in the second
 abbrev pub passesBy : Test → ℕ → ℕ → Bool
 passesBy (Since n) x y = ltb n x
 passesBy (NotSince n) x y = not (ltb n x)
-passesBy (OpenSince n) x y = ltb n x && eqb y 0
-passesBy Open x y = eqb y 0
+passesBy (OpenSince n) x y = ltb n x && ltb y x
+passesBy Open x y = ltb y x
 passesBy Wasted x y = eqb x 0 || ltb x y
 
 -- the byte or line is so
 abbrev pub passing : Test → (xs ys : List ℕ) → ℕ → Bool
 passing test xs ys b = passesBy test (entry xs b) (entry ys b)
 
--- the byte was stored to since the begin, by its line's last store and by its own, and is not closed
-abbrev pub lostAtEnd : (begin : ℕ) → (stored closed dirtied : List ℕ) → ℕ → Bool
-lostAtEnd begin stored closed dirtied b = ltb begin (entry dirtied (lineOf b)) && passing (OpenSince begin) stored closed b
+-- the byte's interval is open, asked of its line first
+abbrev pub openByte : (fence : ℕ) → (stored fenced dirtied backed : List ℕ) → ℕ → Bool
+openByte fence stored fenced dirtied backed b = openLine fence dirtied backed (lineOf b) && passing Open stored fenced b
+
+-- the line was stored to since the begin, and may have an open byte
+abbrev pub lineAtEnd : (begin fence : ℕ) → (dirtied backed : List ℕ) → ℕ → Bool
+lineAtEnd begin fence dirtied backed l = ltb begin (entry dirtied l) && openLine fence dirtied backed l
+
+-- the byte was stored to since the begin, by its line's last store and by its own, and its interval is open
+abbrev pub lostAtEnd : (begin fence : ℕ) → (stored fenced dirtied backed : List ℕ) → ℕ → Bool
+lostAtEnd begin fence stored fenced dirtied backed b = lineAtEnd begin fence dirtied backed (lineOf b) && passing (OpenSince begin) stored fenced b

@@ -4,21 +4,21 @@ use event::Range;
 use tables::Counts;
 ghost use mathlib.Core.Path.{_≡_};
 ghost use mathlib.Core.Bool.{_&&_};
-ghost use Prim.Native.Nat.{_+_, _/_, _≤_};
-ghost use lib.Dec.{leb};
+ghost use Prim.Native.Nat.{_+_, _/_, _≤_, min};
+ghost use lib.Dec.{leb, ltb};
 ghost use lib.ListN.{length};
 ghost use Rattle.window.specs.Window.{windowBytes, lineOf, lineCount};
 ghost use Rattle.history.specs.Found.{lowest, lowestIn};
 ghost use Rattle.tables.specs.Table.{inTables};
-ghost use Rattle.tables.specs.View.{linesOf};
-ghost use Rattle.searches.specs.Tests.{searched, isFound, passesBy, passing, skipped, lostAtEnd};
+ghost use Rattle.tables.specs.View.{lineOpen, linesOf};
+ghost use Rattle.searches.specs.Tests.{searched, isFound, passesBy, passing, skipped, openByte, lostAtEnd};
 
 // What a search over bytes or lines looks for, in the entries of two tables.
 pub enum Test {
     Since(u16), // an event after this one
     NotSince(u16), // none after it
-    OpenSince(u16), // a store after it, and no closing epoch
-    Open, // no closing epoch
+    OpenSince(u16), // a store after it, and no closing fence since that store
+    Open, // a store, and no closing fence since
     Wasted, // no store, or none since the last write-back
 }
 
@@ -35,8 +35,8 @@ fn passes(test: Test, x: u16, y: u16) -> bool
     match test {
         Test::Since(n) => n < x,
         Test::NotSince(n) => !(n < x),
-        Test::OpenSince(n) => n < x && y == 0,
-        Test::Open => y == 0,
+        Test::OpenSince(n) => n < x && y < x,
+        Test::Open => y < x,
         Test::Wasted => x == 0 || x < y,
     }
 }
@@ -130,74 +130,80 @@ pub fn first_byte(test: Test, xs: &[u16; 4096], ys: &[u16; 4096], a: Range) -> S
     first(test, xs, ys, part.address as usize, part.length as usize)
 }
 
-// The lowest of the n bytes from `at` on with a store after an event and no closing epoch; 64 bytes of which none is open are passed
-// over at once.
-fn first_open_from(
-    event: u16,
-    stored: &[u16; 4096],
-    closed: &[u16; 4096],
-    at: usize,
-    n: usize,
-) -> Search
-    requires { ⌜ at + n ≤ 4096 ⌝ }
-    ensures { λ r. ⌜ r ≡ searched (lowest (passing (Test.OpenSince event) (now (stored .entry)) (now (closed .entry))) at n) ⌝ }
+// The end of the line of a byte, or of what is searched, whichever comes first.
+fn line_stop(b: usize, end: usize) -> usize
+    requires { ⌜ b ≤ 4096 ⌝ }
+    ensures { λ r. ⌜ r ≡ min (windowBytes (lineOf b + 1)) end ⌝ }
 {
-    let end = at + n;
-    let mut b = at;
-    while b + 64 <= end {
-        if any(Test::Open, stored, closed, b, 64) {
-            match first(Test::OpenSince(event), stored, closed, b, 64) {
-                Search::Nothing => {}
-                Search::At(x) => {
-                    return Search::At(x);
-                }
-            }
-        }
-        b += 64;
-    }
-    first(Test::OpenSince(event), stored, closed, b, end - b)
+    let next = (b / 64 + 1) * 64;
+    if next < end { next } else { end }
 }
 
-// The lowest byte of a range with a store after an event and no closing epoch.
-pub fn first_open(event: u16, stored: &[u16; 4096], closed: &[u16; 4096], a: Range) -> Search
+// The lowest byte of a range whose interval is open, line by line. Lines that have no open byte by their last store and their last
+// write-back are passed over.
+pub fn first_open(
+    fence: u16,
+    stored: &[u16; 4096],
+    fenced: &[u16; 4096],
+    dirtied: &[u16; 64],
+    backed: &[u16; 64],
+    a: Range,
+) -> Search
     ensures { λ r. ⌜
-        r ≡ searched (lowestIn (passing (Test.OpenSince event) (now (stored .entry)) (now (closed .entry))) (inTables a))
+        r ≡
+        searched
+        (lowestIn (openByte fence (now (stored .entry)) (now (fenced .entry)) (now (dirtied .entry)) (now (backed .entry))) (inTables a))
         ⌝ }
 {
     let part = tables::in_tables(a);
-    first_open_from(
-        event,
-        stored,
-        closed,
-        part.address as usize,
-        part.length as usize,
-    )
+    let mut b = part.address as usize;
+    let end = b + part.length as usize;
+    while b < end {
+        let l = b / 64;
+        let stop = line_stop(b, end);
+        if tables::line_open(fence, dirtied[l], backed[l]) {
+            if any(Test::Open, stored, fenced, b, stop - b) {
+                return first(Test::Open, stored, fenced, b, stop - b);
+            }
+        }
+        b = stop;
+    }
+    Search::Nothing
 }
 
-// The lowest byte of the window that was stored to after the outermost begin and is not closed. Lines not stored to after it are
-// passed over.
+// Whether a line was stored to after the outermost begin and may have an open byte.
+fn line_at_end(begin: u16, fence: u16, dirtied: u16, backed: u16) -> bool
+    ensures { λ r. ⌜ r ≡ (ltb begin dirtied && lineOpen fence dirtied backed) ⌝ }
+{
+    begin < dirtied && tables::line_open(fence, dirtied, backed)
+}
+
+// The lowest byte of the window that was stored to after the outermost begin and whose interval is open. Lines not stored to after it, and
+// those that have no open byte, are passed over.
 pub fn first_since_begin(
     counts: Counts,
     stored: &[u16; 4096],
-    closed: &[u16; 4096],
+    fenced: &[u16; 4096],
     dirtied: &[u16; 64],
+    backed: &[u16; 64],
 ) -> Search
     ensures { λ r. ⌜
         r ≡
         searched
         (lowest
-        (lostAtEnd (counts .begin) (now (stored .entry)) (now (closed .entry)) (now (dirtied .entry)))
+        (lostAtEnd (counts .begin) (counts .fence) (now (stored .entry)) (now (fenced .entry)) (now (dirtied .entry)) (now (backed .entry)))
         0
         (windowBytes (linesOf counts)))
         ⌝ }
 {
     let begin = counts.begin;
+    let fence = counts.fence;
     let lines = tables::lines_of(counts) as usize;
     let mut l = 0;
     while l < lines {
-        if begin < dirtied[l] {
+        if line_at_end(begin, fence, dirtied[l], backed[l]) {
             let at = window::line_start(l as u16) as usize;
-            match first(Test::OpenSince(begin), stored, closed, at, 64) {
+            match first(Test::OpenSince(begin), stored, fenced, at, 64) {
                 Search::Nothing => {}
                 Search::At(b) => {
                     return Search::At(b);

@@ -1,8 +1,8 @@
 -- Laws of changes to a table.
-use mathlib.Core.Path.{_≡_, refl, _∙_}
+use mathlib.Core.Path.{_≡_, refl, sym, _∙_}
 use mathlib.Core.Bool.{cond, _&&_}
-use mathlib.Core.List.{List}
-use Prim.Native.Nat.{ℕ, zero, suc, _+_, _≤_, _<_}
+use mathlib.Core.List.{List, []}
+use Prim.Native.Nat.{ℕ, zero, suc, _+_, _-_, min, _≤_, _<_}
 use mathlib.Core.Logic.{_≢_}
 use native.Mathlib.Omega.{arith}
 use native.Mathlib.Nat.{add-zero}
@@ -10,7 +10,7 @@ use native.Mathlib.Numerals.{add-one}
 use native.Mathlib.Decide.{decLe, ℕ-discrete as decEq}
 use lib.Dec.{leb, ltb}
 use lib.ListN.{length, getD, set, length-set}
-use lib.Seq.{getD-set-same, getD-set-other, set-getD}
+use lib.Seq.{getD-set-same, getD-set-other, set-getD, set-out}
 use borrow.Author.Tests.{le-leb, lt-leb, lt-ltb, le-ltb}
 use Rattle.tables.specs.Table.{changed}
 
@@ -76,6 +76,29 @@ changed-add f at m (suc n) xs =
     let k : m + suc n ≡ suc (m + n) = omega arith in
     let o : at + (m + n) ≡ at + m + n = omega arith in
     rw (k, o, changed-add f at m n xs, changed-above f at xs m (at + m + n) (omega arith))
+
+-- entries past the end are not there to be changed
+pub changed-out : (f : ℕ → ℕ → ℕ) (at n : ℕ) (xs : List ℕ) → length xs ≤ at → changed f at n xs ≡ xs
+unfolding changed
+changed-out f at zero xs h = refl
+changed-out f at (suc n) xs h =
+    let same : length (changed f at n xs) ≡ length xs = changed-length f at xs n in
+    set-out (changed f at n xs) (at + n) _ (omega arith) ∙ changed-out f at n xs h
+
+pub changed-empty : (f : ℕ → ℕ → ℕ) (at n : ℕ) → changed f at n [] ≡ []
+changed-empty f at n = changed-out f at n [] (omega arith)
+
+-- so a loop over those that the table has changes them all
+pub changed-room : (f : ℕ → ℕ → ℕ) (at n : ℕ) {m : ℕ} (xs : List ℕ) {ys : List ℕ} →
+    m ≡ min n (length xs - at) → ys ≡ changed f at m xs → ys ≡ changed f at n xs
+changed-room f at n {m} xs {ys} k e = go (decLe n (length xs - at))
+  where
+    go : Dec (n ≤ length xs - at) → ys ≡ changed f at n xs
+    go (yes h) = let same : m ≡ n = omega arith in rw same at e
+    go (no h) =
+        let all : n ≡ m + (n - m) = omega arith in
+        let same : length (changed f at m xs) ≡ length xs = changed-length f at xs m in
+        e ∙ sym (rw all (changed-add f at m (n - m) xs ∙ changed-out f (at + m) (n - m) (changed f at m xs) (omega arith)))
 
 -- changes that make the same of each entry
 pub changed-same : (f g : ℕ → ℕ → ℕ) (at n : ℕ) (xs : List ℕ) →

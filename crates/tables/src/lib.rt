@@ -1,10 +1,11 @@
 // The tables of a run, its numbers, a byte's interval from its entries, and the part of a range that the tables have.
 use event::Interval;
+use event::NamedInterval;
 use event::Range;
 ghost use mathlib.Core.Path.{_≡_};
 ghost use Prim.Native.Nat.{min};
 ghost use Rattle.tables.specs.Table.{inTables};
-ghost use Rattle.tables.specs.View.{noCounts, linesOf, beginAfter, storeAfter, intervalFrom};
+ghost use Rattle.tables.specs.View.{noCounts, linesOf, beginAfter, storeAfter, lineOpen, sinceStore, intervalFrom, namedFrom};
 
 // The numbers of a run. Event numbers start at 1, and 0 stands for none.
 pub struct Counts {
@@ -18,13 +19,17 @@ pub struct Counts {
     pub fence: u16, // the latest fence
 }
 
-// A run: its numbers, four tables over the bytes of the largest window and two over its lines.
+// A run: its numbers, six tables over the bytes of the largest window and two over its lines. Findings go by the events alone. The epochs
+// and the first write-backs are what the answer of a byte asked has besides. Where a byte is stored to again, its entries of the earlier
+// store stay: a closing fence and a write-back older than the last store count for nothing, and so does the closing epoch then.
 pub struct Run {
     pub counts: Counts,
     pub stored: [u16; 4096], // a byte's last store
     pub logged: [u16; 4096], // a byte's last log
+    pub fenced: [u16; 4096], // the fence that closed its interval
     pub opened: [u16; 4096], // the epoch at which its interval opened
-    pub closed: [u16; 4096], // the epoch at which it closed, 0 while it is open
+    pub closed: [u16; 4096], // the epoch at which it closed
+    pub written: [u16; 4096], // the first write-back of its line after its last store
     pub dirtied: [u16; 64], // the last store to a line
     pub backed: [u16; 64], // the last write-back of a line
 }
@@ -73,17 +78,57 @@ pub fn store_after(a: Range, store: u16, number: u16) -> u16
     if window::is_empty(a) { store } else { number }
 }
 
-// A byte's interval, from its last store and the epochs at which the interval opened and closed.
-pub fn interval_from(store: u16, opened: u16, closed: u16) -> Interval
-    ensures { λ r. ⌜ r ≡ intervalFrom store opened closed ⌝ }
+// Whether a line may have an open byte, from the latest fence, its last store and its last write-back: where the write-back is later than
+// the store, and the fence later than the write-back, all its bytes are closed.
+pub fn line_open(fence: u16, dirtied: u16, backed: u16) -> bool
+    ensures { λ r. ⌜ r ≡ lineOpen fence dirtied backed ⌝ }
+{
+    backed <= dirtied || fence <= backed
+}
+
+// An event that an entry of a byte names, or 0 where it is older than the byte's last store.
+pub fn since_store(store: u16, event: u16) -> u16
+    ensures { λ r. ⌜ r ≡ sinceStore store event ⌝ }
+{
+    if event < store { 0 } else { event }
+}
+
+// A byte's interval, from its last store, the fence that closed it, and the epochs at which it opened and closed.
+pub fn interval_from(store: u16, fenced: u16, opened: u16, closed: u16) -> Interval
+    ensures { λ r. ⌜ r ≡ intervalFrom store fenced opened closed ⌝ }
 {
     if store == 0 {
         return Interval::None;
     }
-    if closed == 0 {
+    if since_store(store, fenced) == 0 {
         return Interval::Open(opened);
     }
     Interval::Closed(opened, closed)
+}
+
+// The same with its events; `written` is the first write-back after the last store.
+pub fn named_from(store: u16, fenced: u16, opened: u16, closed: u16, written: u16) -> NamedInterval
+    ensures { λ r. ⌜ r ≡ namedFrom store fenced opened closed written ⌝ }
+{
+    if store == 0 {
+        return NamedInterval::None;
+    }
+    let back = since_store(store, written);
+    let fence = since_store(store, fenced);
+    if fence == 0 {
+        return NamedInterval::Open {
+            opened,
+            store,
+            back,
+        };
+    }
+    NamedInterval::Closed {
+        opened,
+        closed,
+        store,
+        back,
+        fence,
+    }
 }
 
 // The part of a range that the tables have.

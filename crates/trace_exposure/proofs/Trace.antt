@@ -1,12 +1,14 @@
 -- The answer from where the records of a trace lead is that of the trace.
-use mathlib.Core.Path.{_≡_, refl, sym, ap, _∙_}
+use mathlib.Core.Path.{_≡_, refl, sym, ap, ap₂, _∙_, fun-ext}
 use mathlib.Core.List.{List, []}
 use Prim.Native.Nat.{ℕ}
 use Rattle.event.specs.declared.Check.{Check}
+use Rattle.event.specs.declared.Interval.{Interval}
 use Rattle.event.specs.declared.Refusal.{Refusal}
 use Rattle.history.specs.Interval.{intervalOf}
 use Rattle.history.specs.View.{View}
 use Rattle.history.proofs.Given.{none-broken}
+use Rattle.engine.proofs.ByEntries.{same-interval}
 use Rattle.engine.proofs.Link.{same-view, tracks}
 use Rattle.exposure.specs.Exposure.{exposureIn, exposureOf}
 use Rattle.trailer.specs.declared.Trailer.{Trailer}
@@ -50,8 +52,9 @@ module _ (s : List ℕ) where
     same-exposure : checkAll (linesIn s) (recordsIn s) ≡ Passed → exposureOf (inTrace .stage .run) ≡ exposureIn (linesIn s) (intervalOf (historyOf s))
     same-exposure k =
         let few = window-fits s [] known in
+        let t = tracks (linesIn s) few (eventsIn s) in
         ap exposureOf (judged-run (linesIn s) few (recordsIn s) [] k) ∙
-        ap (λ (v : View). exposureIn (v .lines) (v .interval)) (same-view few (tracks (linesIn s) few (eventsIn s)))
+        ap₂ (λ (v : View) (interval : ℕ → Interval). exposureIn (v .lines) interval) (same-view few t) (fun-ext (same-interval t))
 
     decided : (c : TraceCheck) → checkAll (linesIn s) (recordsIn s) ≡ c →
         unlessRefused c (exposureOf (inTrace .stage .run)) ≡ unlessRefused c (exposureIn (linesIn s) (intervalOf (historyOf s)))

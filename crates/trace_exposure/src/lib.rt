@@ -46,8 +46,10 @@ fn records_exposure(records: &[u8], count: u32, lines: u16) -> TraceExposure
 {
     let mut stored = [0u16; 4096];
     let mut logged = [0u16; 4096];
+    let mut fenced = [0u16; 4096];
     let mut opened = [0u16; 4096];
     let mut closed = [0u16; 4096];
+    let mut written = [0u16; 4096];
     let mut dirtied = [0u16; 64];
     let mut backed = [0u16; 64];
     let mut buffer = [0u8; 0];
@@ -57,8 +59,10 @@ fn records_exposure(records: &[u8], count: u32, lines: u16) -> TraceExposure
         tables::no_counts(lines),
         &mut stored,
         &mut logged,
+        &mut fenced,
         &mut opened,
         &mut closed,
+        &mut written,
         &mut dirtied,
         &mut backed,
         &mut buffer,
@@ -66,7 +70,13 @@ fn records_exposure(records: &[u8], count: u32, lines: u16) -> TraceExposure
     let check = j.check;
     match check {
         TraceCheck::Refused { refusal, record } => TraceExposure::Refused { refusal, record },
-        TraceCheck::Passed => answer(exposure::exposure_of(j.counts, &stored, &opened, &closed)),
+        TraceCheck::Passed => answer(exposure::exposure_of(
+            j.counts,
+            &stored,
+            &fenced,
+            &opened,
+            &closed,
+        )),
     }
 }
 

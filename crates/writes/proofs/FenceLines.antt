@@ -11,14 +11,14 @@ use Rattle.history.specs.Found.{lowest}
 use Rattle.searches.specs.declared.Test.the-variants.{Since}
 use Rattle.tables.specs.Table.{entry, changed}
 use Rattle.searches.specs.Tests.{isFound, passing}
-use Rattle.writes.specs.Fenced.{closedNow, fenced}
+use Rattle.writes.specs.Fenced.{fenceNow, fencedBy}
 use Rattle.tables.proofs.Table.{changed-add, changed-same, changed-kept}
 use Rattle.searches.proofs.Parts.{none-there}
 
-module _ (fence epoch : ℕ) (stored backed : List ℕ) where
+module _ (fence number : ℕ) (stored backed : List ℕ) where
   -- these bytes after the fence
   abbrev pub fencedLines : (from to : ℕ) → List ℕ → List ℕ
-  fencedLines from to xs = changed (fenced fence epoch stored backed) (windowBytes from) (windowBytes (to - from)) xs
+  fencedLines from to xs = changed (fencedBy fence number stored backed) (windowBytes from) (windowBytes (to - from)) xs
 
   -- none of them
   pub lines-none : (from : ℕ) (xs : List ℕ) → xs ≡ fencedLines from from xs
@@ -32,12 +32,12 @@ module _ (fence epoch : ℕ) (stored backed : List ℕ) where
       let n : (to - from) * 64 ≡ (l - from) * 64 + (to - l) * 64 = omega arith in
       let at : l * 64 ≡ from * 64 + (l - from) * 64 = omega arith in
       (rw (first, at) at next) ∙
-      sym (rw n (changed-add (fenced fence epoch stored backed) (from * 64) ((l - from) * 64) ((to - l) * 64) xs))
+      sym (rw n (changed-add (fencedBy fence number stored backed) (from * 64) ((l - from) * 64) ((to - l) * 64) xs))
 
   -- lines not written back since the last fence are as they were
   lines-kept : (l to : ℕ) (xs : List ℕ) → ((k : ℕ) → l ≤ k → k < to → ltb fence (entry backed k) ≡ false) → fencedLines l to xs ≡ xs
   lines-kept l to xs h =
-      changed-kept (fenced fence epoch stored backed) (l * 64) ((to - l) * 64) xs
+      changed-kept (fencedBy fence number stored backed) (l * 64) ((to - l) * 64) xs
       (λ k a b. rw (h (lineOf k) (omega arith) (omega arith)))
 
   -- one such line
@@ -53,12 +53,12 @@ module _ (fence epoch : ℕ) (stored backed : List ℕ) where
 
   -- of a line written back since, the open bytes last stored to before the write-back close
   pub line-closed : {ys : List ℕ} {at : ℕ} (l : ℕ) (xs : List ℕ) → fence < entry backed l → l < 64 → at ≡ lineStart l →
-      ys ≡ changed (λ b old. closedNow (entry backed l) epoch (entry stored b) old) at 64 xs → ys ≡ fencedLines l (l + 1) xs
+      ys ≡ changed (λ b old. fenceNow (entry backed l) number (entry stored b) old) at 64 xs → ys ≡ fencedLines l (l + 1) xs
   line-closed l xs h low start closed =
       let at-line : lineStart l ≡ l * 64 = rw (lt-ltb l 64 low) in
       let one : (l + 1 - l) * 64 ≡ 64 = omega arith in
       (rw (start ∙ at-line) at closed) ∙
       sym
       (rw one
-      (changed-same (fenced fence epoch stored backed) (λ b old. closedNow (entry backed l) epoch (entry stored b) old) (l * 64) 64 xs
+      (changed-same (fencedBy fence number stored backed) (λ b old. fenceNow (entry backed l) number (entry stored b) old) (l * 64) 64 xs
       (λ k a b. let on-line : lineOf k ≡ l = omega arith in rw (on-line, lt-ltb fence (entry backed l) h))))

@@ -1,2 +1,2 @@
 -- Writes to the tables.
-pub mod Fenced  -- the closing epoch of a byte after a fence
+pub mod Fenced  -- the closing fence of a byte after a fence

@@ -75,9 +75,7 @@ impl fmt::Display for Answer {
         match self {
             Answer::Taken => write!(f, "taken"),
             Answer::Finding(finding) => write_finding(f, finding),
-            Answer::Interval(Interval::None) => write!(f, "none"),
-            Answer::Interval(Interval::Open(since)) => write!(f, "open since {since}"),
-            Answer::Interval(Interval::Closed(from, to)) => write!(f, "closed {from} to {to}"),
+            Answer::Interval(interval) => write!(f, "{interval}"),
             Answer::Totals(totals) => {
                 let (events, fences, found) = (totals.events, totals.fences, totals.found);
                 write!(f, "events {events} fences {fences} findings {found}")

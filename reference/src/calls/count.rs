@@ -13,7 +13,10 @@ pub enum Sort {
     /// By the number of the finding's kind.
     Finding(u8),
     NoInterval,
+    /// Open, and the line was not written back since the last store.
     Open,
+    /// Open, and the line was written back since the last store.
+    OpenWrittenBack,
     /// Open, and closed when the byte was asked before.
     OpenAgain,
     Closed,
@@ -35,6 +38,7 @@ impl fmt::Display for Sort {
             Sort::Finding(0) | Sort::NoInterval => write!(f, "none"),
             Sort::Finding(kind) => write!(f, "finding {kind}"),
             Sort::Open => write!(f, "open"),
+            Sort::OpenWrittenBack => write!(f, "open and written back"),
             Sort::OpenAgain => write!(f, "open again"),
             Sort::Closed => write!(f, "closed"),
             Sort::Totals => write!(f, "totals"),
@@ -66,7 +70,9 @@ impl Counts {
         let mut closed = BTreeSet::new();
         for (&call, answer) in entry.case.calls.iter().zip(&entry.answers) {
             let sort = match (call, sort(answer.as_ref())) {
-                (Call::Ask(byte), Sort::Open) if closed.contains(&byte) => Sort::OpenAgain,
+                (Call::Ask(byte), Sort::Open | Sort::OpenWrittenBack) if closed.contains(&byte) => {
+                    Sort::OpenAgain
+                }
                 (Call::Ask(byte), Sort::Closed) => {
                     closed.insert(byte);
                     Sort::Closed
@@ -99,15 +105,22 @@ fn sort(answer: Option<&Answer>) -> Sort {
         None => Sort::Silent,
         Some(Answer::Taken) => Sort::Taken,
         Some(Answer::Finding(finding)) => Sort::Finding(finding.kind.number()),
-        Some(Answer::Interval(Interval::None)) => Sort::NoInterval,
-        Some(Answer::Interval(Interval::Open(_))) => Sort::Open,
-        Some(Answer::Interval(Interval::Closed(..))) => Sort::Closed,
+        Some(Answer::Interval(interval)) => sort_of_interval(interval),
         Some(Answer::Totals(_)) => Sort::Totals,
         Some(Answer::Exposure(Exposure { remainder: 0, .. })) => Sort::Whole,
         Some(Answer::Exposure(_)) => Sort::WithRemainder,
         Some(Answer::Writer(Ok(None), _)) => Sort::Taken,
         Some(Answer::Writer(Ok(Some(_)), _)) => Sort::Length,
         Some(Answer::Refused(number) | Answer::Writer(Err(number), _)) => Sort::Refused(*number),
+    }
+}
+
+fn sort_of_interval(interval: &Interval) -> Sort {
+    match interval {
+        Interval::None => Sort::NoInterval,
+        Interval::Open { write_back: 0, .. } => Sort::Open,
+        Interval::Open { .. } => Sort::OpenWrittenBack,
+        Interval::Closed { .. } => Sort::Closed,
     }
 }
 

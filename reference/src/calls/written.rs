@@ -1,5 +1,6 @@
-//! Calls written by hand: at the limits, the request's small runs, persist intervals, runs of many
-//! events, and torn stores. Calls are parted by semicolons, and the site of an event is its place in the run.
+//! Calls written by hand: at the limits, the request's small runs, persist intervals and the events
+//! that they name, runs of many events, and torn stores. Calls are parted by semicolons, and the site
+//! of an event is its place in the run.
 
 use super::{Call, Case};
 use crate::corpus::runs::{SMALL, WHOLE};
@@ -14,6 +15,11 @@ pub(super) fn cases() -> Vec<Case> {
     add("limits", limits());
     add("small", small());
     add("intervals", INTERVALS.map(String::from).to_vec());
+    add("events of intervals", EVENTS.map(String::from).to_vec());
+    add(
+        "late events of intervals",
+        LATE_EVENTS.map(String::from).to_vec(),
+    );
     add("long", long());
     add("torn", torn());
     cases
@@ -153,6 +159,74 @@ const INTERVALS: [&str; 8] = [
     ask 60; ask 63; ask 64; ask 67; ask 68",
     // A write-back of the other line.
     "fresh 2; store 0/8; write-back 64/64; fence; ask 0",
+];
+
+// Events of intervals.
+
+const EVENTS: [&str; 16] = [
+    // A second write-back while open, and a third one when closed.
+    "fresh 2; store 0/8; ask 0; write-back 0/8; ask 0; write-back 0/8; ask 0; fence; ask 0;
+    write-back 0/8; ask 0; fence; ask 0; ask 7; ask 8",
+    // Write-backs before the last store.
+    "fresh 2; write-back 0/8; store 0/8; ask 0; fence; ask 0; store 4/8; write-back 63/1; store 8/1;
+    ask 0; ask 4; ask 8; fence; ask 0; ask 4; ask 8",
+    // Stored again after it was closed.
+    "fresh 2; store 0/8; write-back 0/8; fence; ask 0; store 0/4; ask 0; ask 4; fence; ask 0;
+    write-back 0/1; ask 0; ask 4; fence; ask 0; ask 4; store 0/8; ask 0; ask 4",
+    // Write-backs of the neighbouring lines, and one across a border.
+    "fresh 3; store 64/8; write-back 0/64; ask 64; write-back 128/64; ask 64; fence; ask 64;
+    write-back 63/2; ask 64; fence; ask 63; ask 64; ask 71; ask 72; ask 128",
+    // Write-backs from another byte of the line.
+    "fresh 2; store 127/1; write-back 64/1; ask 127; store 0/1; write-back 0/128; ask 0; ask 127;
+    fence; ask 0; ask 127",
+    // A store between the write-back and the fence.
+    "fresh 2; store 0/8; write-back 0/8; store 0/8; ask 0; fence; ask 0; fence; write-back 0/8;
+    fence; ask 0",
+    // Two fences after the write-back.
+    "fresh 1; fence; store 8/8; fence; write-back 8/8; begin; fence; ask 8; fence; ask 8; end;
+    ask 7; ask 15; ask 16",
+    // Two bytes of one line, with other stores and write-backs.
+    "fresh 2; store 0/1; write-back 0/1; store 1/1; ask 0; ask 1; write-back 0/2; ask 0; ask 1;
+    fence; ask 0; ask 1; store 1/1; write-back 1/1; fence; store 0/1; ask 0; ask 1; write-back 1/1;
+    fence; ask 0; ask 1",
+    // Stores and write-backs of no bytes.
+    "fresh 2; store 0/8; write-back 0/0; write-back 4/0; ask 4; store 4/0; ask 4; write-back 7/1;
+    store 0/0; ask 0; write-back 64/0; fence; ask 0; ask 7; store 7/0; ask 7; ask 64",
+    // Refused events between, which have no number.
+    "fresh 2; end; store 0/8; write-back 121/8; log 0/8; write-back 0/8; store 127/2; ask 0; ask 128;
+    end; fence; ask 0; store 129/0; store 0/8; ask 0; close",
+    // A refused window.
+    "fresh 0; store 64/1; store 63/1; write-back 0/64; fence; ask 63; ask 64",
+    // Every kind of event has a number.
+    "fresh 2; begin; log 0/8; store 0/8; persisted 0/8; write-back 0/8; ordered 0/8 before 64/8;
+    fence; ask 0; end; close",
+    // A store across two lines, which are written back one after the other.
+    "fresh 2; store 63/2; write-back 64/1; write-back 63/1; ask 63; ask 64; fence; write-back 63/2;
+    ask 63; ask 64",
+    // The last byte of 64 lines.
+    "fresh 64; store 4095/1; fence; write-back 4032/1; fence; ask 4094; ask 4095; ask 4096",
+    // Two lines in turn.
+    "fresh 2; store 0/8; store 64/8; write-back 64/8; fence; write-back 0/8; ask 0; ask 64; fence;
+    ask 0; ask 64",
+    // Asked again, with exposures and closings between.
+    "fresh 1; store 0/2; write-back 0/1; write-back 0/1; exposure; ask 0; close; ask 0; fence;
+    exposure; ask 0; ask 0; close",
+];
+
+/// Event numbers above 32,767, up to the last.
+const LATE_EVENTS: [&str; 5] = [
+    "fresh 2; fences 32766; store 0/8; write-back 0/8; ask 0; fence; ask 0; store 4/8; ask 4;
+    fences 7230; write-back 0/1; write-back 0/1; ask 4; fence; ask 0; ask 4",
+    // The last event is the fence.
+    "fresh 1; fences 65532; store 63/1; write-back 63/1; ask 63; fence; ask 63; store 63/1; ask 63;
+    close",
+    // The first event, and the last ones.
+    "fresh 2; store 0/1; fences 65532; ask 0; write-back 0/1; fence; ask 0; store 0/1; ask 0",
+    // The last event is the write-back.
+    "fresh 1; fences 65533; store 0/8; write-back 7/1; ask 0; fence; ask 0",
+    // The last event is the store.
+    "fresh 1; store 0/8; write-back 0/8; fence; fences 65531; store 0/1; ask 0; ask 1;
+    write-back 0/8; fence; ask 0",
 ];
 
 // Many events.

@@ -36,23 +36,35 @@ mul-store c = search needs
 element-copy-out-store : tie.Need-element-copy-out-store
 element-copy-out-store c = below c
 
+mul-fenced : tie.Need-mul-fenced
+mul-fenced c = search needs
+
+element-copy-out-fenced : tie.Need-element-copy-out-fenced
+element-copy-out-fenced c = below (c .before)
+
 mul-opened : tie.Need-mul-opened
 mul-opened c = search needs
 
 element-copy-out-opened : tie.Need-element-copy-out-opened
-element-copy-out-opened c = below (c .before)
+element-copy-out-opened c = below (c .before .before)
 
 mul-closed : tie.Need-mul-closed
 mul-closed c = search needs
 
 element-copy-out-closed : tie.Need-element-copy-out-closed
-element-copy-out-closed c = below (c .before .before)
+element-copy-out-closed c = below (c .before .before .before)
 
-interval-from-requires : tie.Need-interval-from-requires
-interval-from-requires c κs = search needs
+mul-written : tie.Need-mul-written
+mul-written c = search needs
+
+element-copy-out-written : tie.Need-element-copy-out-written
+element-copy-out-written c = below (c .before .before .before .before)
+
+named-from-requires : tie.Need-named-from-requires
+named-from-requires c κs = search needs
 
 returns-2 : tie.Need-returns-2
-returns-2 c = rw (past (c .before .before .before .before), c .interval-from .ensures)
+returns-2 c = rw (past (c .before .before .before .before .before .before), c .named-from .ensures)
 
 pub ask-spec : {M : Type 1} → statement M
 ask-spec =
@@ -63,9 +75,13 @@ ask-spec =
     returns
     mul-store
     element-copy-out-store
+    mul-fenced
+    element-copy-out-fenced
     mul-opened
     element-copy-out-opened
     mul-closed
     element-copy-out-closed
-    interval-from-requires
+    mul-written
+    element-copy-out-written
+    named-from-requires
     returns-2)

@@ -15,12 +15,12 @@ of-end-requires c κs = search needs
 counted-requires : tie.Need-counted-requires
 counted-requires c κs = search needs
 
-sub-t7 : tie.Need-sub-t7
-sub-t7 c = search needs
+sub-t8 : tie.Need-sub-t8
+sub-t8 c = search needs
 
 returns : tie.Need-returns
 unfolding countsAfter
 returns c = rw (c .before .counted .ensures, c .before .before .of-end .ensures, sub-one, add-one)
 
 pub end-spec : {M : Type 1} → statement M
-end-spec = tie.close (tie.spec add-of-end of-end-requires counted-requires sub-t7 returns)
+end-spec = tie.close (tie.spec add-of-end of-end-requires counted-requires sub-t8 returns)

@@ -1,4 +1,4 @@
--- `events::store` meets its contract: its finding, the numbers after it, and the tables that its call ensures.
+-- `events::store` meets its contract: its finding, the numbers after it, and the tables that its calls ensure.
 -- Assumes nothing.
 use borrow.Author.Needs.{needs}
 use Rattle.tables.proofs.InTables.{in-tables-address, in-tables-length}
@@ -15,19 +15,35 @@ counted-requires c κs = search needs
 store-requires : tie.Need-store-requires
 store-requires c κs = search needs
 
+open-bytes-requires : tie.Need-open-bytes-requires
+open-bytes-requires c κs = search needs
+
 store-after-requires : tie.Need-store-after-requires
 store-after-requires c κs = search needs
+
+same-length : tie.Need-same-length
+same-length c = search needs
 
 returns : tie.Need-returns
 unfolding countsAfter
 returns c =
-    let d = c .before in
-    let k = d .before .before .before .before .before in
-    let s = k .before .before in
+    let d = c .before .before .before in
+    let w = d .before .before in
+    let k = w .before .before .before in
+    let s = k .before .before .before in
     let address = in-tables-address (s .args .a) (s .pre .1) in
     let length = in-tables-length (s .args .a) (s .pre .1) in
-    let t = rw (k .counted .ensures, address, length) at (d .store .ensures) in
-    (rw (c .store-after .ensures, k .counted .ensures, k .before .of-store .ensures, address, length), (t .0, (t .1 .0, (t .1 .1 .0, t .1 .1 .1))))
+    let t = rw (k .counted .ensures, address, length) at (w .store .ensures) in
+    (rw (c .store-after .ensures, k .counted .ensures, k .before .of-store .ensures, address, length), (t .0, (d .open-bytes .ensures, t .1)))
 
 pub store-spec : {M : Type 1} → statement M
-store-spec = tie.close (tie.spec of-store-requires counted-requires store-requires store-after-requires returns)
+store-spec =
+    tie.close
+    (tie.spec
+    of-store-requires
+    counted-requires
+    store-requires
+    open-bytes-requires
+    store-after-requires
+    same-length
+    returns)

@@ -3,17 +3,17 @@
 use Prim.Native.Nat.{_-_, _≤_}
 use native.Mathlib.Omega.{arith}
 use borrow.Author.Needs.{needs}
-use Rattle.exposure.specs.Exposure.{intervalsIn}
+use Rattle.tables.specs.View.{intervalIn}
 use Rattle.exposure.proofs.Total.{SumsAt, one-at-most, sums-none, sums-next, sums-done}
 use Rattle.exposure.proofs.sum_bytes.Statement.{statement}
 use Rattle.exposure.proofs.sum_bytes.Tie as tie
 
 abbrev Inv-loop : tie.InvT-loop
-Inv-loop bytes stored opened closed epochs₀ count₀ i₀ epochs count i =
-    (i ≤ bytes) × SumsAt (intervalsIn stored opened closed) i epochs count
+Inv-loop bytes stored fenced opened closed epochs₀ count₀ i₀ epochs count i =
+    (i ≤ bytes) × SumsAt (intervalIn stored fenced opened closed) i epochs count
 
 abbrev μ-loop : tie.MeasureT-loop
-μ-loop bytes stored opened closed epochs₀ count₀ i₀ epochs count i = bytes - i
+μ-loop bytes stored fenced opened closed epochs₀ count₀ i₀ epochs count i = bytes - i
 
 loop-holds : tie.Need-loop-holds Inv-loop μ-loop
 loop-holds c = (omega arith, sums-none _)
@@ -39,6 +39,12 @@ mul-interval-from-3 c = search needs
 element-copy-out-interval-from-3 : tie.Need-element-copy-out-interval-from-3 Inv-loop μ-loop
 element-copy-out-interval-from-3 c = omega arith
 
+mul-interval-from-4 : tie.Need-mul-interval-from-4 Inv-loop μ-loop
+mul-interval-from-4 c = search needs
+
+element-copy-out-interval-from-4 : tie.Need-element-copy-out-interval-from-4 Inv-loop μ-loop
+element-copy-out-interval-from-4 c = omega arith
+
 interval-from-requires : tie.Need-interval-from-requires Inv-loop μ-loop
 interval-from-requires c κs = search needs
 
@@ -55,7 +61,7 @@ one-if-closed-requires : tie.Need-one-if-closed-requires Inv-loop μ-loop
 one-if-closed-requires c κs = search needs
 
 add-count : tie.Need-add-count Inv-loop μ-loop
-add-count c = let l = c .before .before .before .before .before .before .before .loop in search (needs, one-at-most (c .before .before .interval-from .result), c .one-if-closed .ensures, l .inv .1 .within)
+add-count c = let l = c .before .before .before .before .before .before .before .before .loop in search (needs, one-at-most (c .before .before .interval-from .result), c .one-if-closed .ensures, l .inv .1 .within)
 
 add-i : tie.Need-add-i Inv-loop μ-loop
 add-i c = search needs
@@ -65,7 +71,7 @@ loop-less c = omega arith
 
 loop-again : tie.Need-loop-again Inv-loop μ-loop
 loop-again c =
-    let l = c .before .before .before .before .before .before .before .loop in
+    let l = c .before .before .before .before .before .before .before .before .loop in
     (omega arith, sums-next (l .inv .1) (c .before .before .interval-from .ensures) (c .before .epochs-at-risk .ensures) (omega arith) (c .one-if-closed .ensures))
 
 returns : tie.Need-returns Inv-loop μ-loop
@@ -85,6 +91,8 @@ sum-bytes-spec =
     element-copy-out-interval-from-2
     mul-interval-from-3
     element-copy-out-interval-from-3
+    mul-interval-from-4
+    element-copy-out-interval-from-4
     interval-from-requires
     epochs-at-risk-requires
     cast-epochs

@@ -49,13 +49,13 @@ element-copy-out-if1 : tie.Need-element-copy-out-if1
 element-copy-out-if1 c = let k = c .before .before in omega (arith, lowest-below _ _ _ (at-line k), in-tables-lines (start k .args .a))
 
 returns : tie.Need-returns
-returns c = let w = c .before .before in let k = w .before .args in rw (back-found (runOf (noCounts 0) [] [] [] [] (k .dirtied .now) (k .backed .now)) (inTables (k .a)), found-none _ (c .enum-told .given .1) (w .first-line .ensures))
+returns c = let w = c .before .before in let k = w .before .args in rw (back-found (runOf (noCounts 0) [] [] [] [] [] [] (k .dirtied .now) (k .backed .now)) (inTables (k .a)), found-none _ (c .enum-told .given .1) (w .first-line .ensures))
 
 returns-2 : tie.Need-returns-2
-returns-2 c = let w = c .before .before in let k = start (w .before .before) .args in rw (back-found (runOf (noCounts 0) [] [] [] [] (k .dirtied .now) (k .backed .now)) (inTables (k .a)), at-line (w .before .before), w .line-start .ensures, eq-eqb _ 0 (c .if1 .taken))
+returns-2 c = let w = c .before .before in let k = start (w .before .before) .args in rw (back-found (runOf (noCounts 0) [] [] [] [] [] [] (k .dirtied .now) (k .backed .now)) (inTables (k .a)), at-line (w .before .before), w .line-start .ensures, eq-eqb _ 0 (c .if1 .taken))
 
 returns-3 : tie.Need-returns-3
-returns-3 c = let w = c .before .before in let k = start (w .before .before) .args in rw (back-found (runOf (noCounts 0) [] [] [] [] (k .dirtied .now) (k .backed .now)) (inTables (k .a)), at-line (w .before .before), w .line-start .ensures, ne-eqb _ 0 (c .if1 .left))
+returns-3 c = let w = c .before .before in let k = start (w .before .before) .args in rw (back-found (runOf (noCounts 0) [] [] [] [] [] [] (k .dirtied .now) (k .backed .now)) (inTables (k .a)), at-line (w .before .before), w .line-start .ensures, ne-eqb _ 0 (c .if1 .left))
 
 pub of-back-spec : {M : Type 1} → statement M
 of-back-spec =

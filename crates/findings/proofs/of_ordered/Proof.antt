@@ -38,10 +38,10 @@ element-copy-out-store : tie.Need-element-copy-out-store
 element-copy-out-store c = let s = c .before .before in omega (arith, pair-below _ _ _ _ (found-pair _ (s .kept .given .1) (s .before .before .first-pair .ensures)) .1)
 
 returns : tie.Need-returns
-returns c = let w = c .before .before in let k = w .before .args in rw (ordered-found (runOf (noCounts 0) (k .stored .now) [] (k .opened .now) (k .closed .now) [] []) (inTables (k .a)) (inTables (k .b)), found-no-pair _ (c .enum-told .given .1) (w .first-pair .ensures))
+returns c = let w = c .before .before in let k = w .before .args in rw (ordered-found (runOf (noCounts 0) (k .stored .now) [] (k .fenced .now) [] [] [] [] []) (inTables (k .a)) (inTables (k .b)), found-no-pair _ (c .enum-told .given .1) (w .first-pair .ensures))
 
 returns-2 : tie.Need-returns-2
-returns-2 c = let s = c .before .before .before in let w = s .before .before in let k = w .before .args in rw (ordered-found (runOf (noCounts 0) (k .stored .now) [] (k .opened .now) (k .closed .now) [] []) (inTables (k .a)) (inTables (k .b)), found-pair _ (s .kept .given .1) (w .first-pair .ensures))
+returns-2 c = let s = c .before .before .before in let w = s .before .before in let k = w .before .args in rw (ordered-found (runOf (noCounts 0) (k .stored .now) [] (k .fenced .now) [] [] [] [] []) (inTables (k .a)) (inTables (k .b)), found-pair _ (s .kept .given .1) (w .first-pair .ensures))
 
 pub of-ordered-spec : {M : Type 1} → statement M
 of-ordered-spec =

@@ -1,5 +1,5 @@
 -- The last store and the persist interval of a byte, in plain words.
-use mathlib.Core.Path.{_≡_}
+use mathlib.Core.Path.{_≡_, _∙_}
 use mathlib.Core.Bool.{Bool, true}
 use mathlib.Core.Logic.{_≢_}
 use Prim.Native.Nat.{ℕ, _<_}
@@ -10,14 +10,16 @@ use lib.ListN.{length}
 use Rattle.event.specs.declared.Event.{Event}
 use Rattle.event.specs.declared.Interval.{Interval}
 use Rattle.event.specs.declared.Interval.the-variants.{None, Open, Closed}
+use Rattle.event.specs.declared.NamedInterval.{NamedInterval}
+use Rattle.event.specs.declared.NamedInterval.the-variants.{None as NoneNamed, Open as OpenNamed, Closed as ClosedNamed}
 use Rattle.window.specs.Window.{lineOf}
 use Rattle.history.specs.Count.{first}
 use Rattle.history.specs.History.{History, is, fences, storesByte, writesBackLine}
-use Rattle.history.specs.Interval.{epochAt, lastStore, backAfter, fenceAfter, intervalOf}
+use Rattle.history.specs.Interval.{epochAt, lastStore, backAfter, fenceAfter, intervalOf, namedOf}
 use Rattle.history.specs.Given.{after}
 use Rattle.history.proofs.Count.{first-is, first-earliest}
 use Rattle.history.proofs.History.{is-number}
-use Rattle.history.proofs.Interval.{last-store-stores, last-store-latest, interval-none, interval-open, interval-closed, forced-closes, back-there, fence-after}
+use Rattle.history.proofs.Interval.{last-store-stores, last-store-latest, interval-none, interval-open, interval-closed, forced-closes, back-there, fence-after, if-some, named-none, named-stored}
 
 -- the last store is a store that covers the byte, and no later one does; it is 0 where none does
 pub data LastStore (h : History) (b : ℕ) : ℕ → Type 0 where
@@ -66,4 +68,46 @@ interval-is h b = go (decEq (lastStore h b) 0) (decEq (fenceAfter h (lineOf b) (
         let e = fence-after h (lineOf b) (lastStore h b) w in
         rw (interval-closed h b k z)
         (IntervalIs.nowClosed {f = fenceAfter h (lineOf b) (lastStore h b)} (last-store h b) k (first-after (writesBackLine (lineOf b)) h (lastStore h b) w)
+        (rw e (first-after fences h (backAfter h (lineOf b) (lastStore h b)) (rw e at z))))
+
+-- the first write-back of the line after a store, 0 where there is none yet
+pub data FirstBack (h : History) (l s : ℕ) : ℕ → Type 0 where
+  noneYet : ((w : ℕ) → s < w → is (writesBackLine l) h w ≡ true → ⊥) → FirstBack h l s 0
+  firstIs : {w : ℕ} → FirstAfter (is (writesBackLine l) h) s w → FirstBack h l s w
+
+pub first-back : (h : History) (l s : ℕ) → FirstBack h l s (backAfter h l s)
+unfolding backAfter
+first-back h l s = go (decEq (backAfter h l s) 0)
+  where
+    go : Dec (backAfter h l s ≡ 0) → FirstBack h l s (backAfter h l s)
+    go (yes z) =
+        rw z
+        (FirstBack.noneYet
+        (λ w a t. first-earliest (is (writesBackLine l) h) s (length h) w t a (is-number (writesBackLine l) h w t .within) .there z))
+    go (no k) = FirstBack.firstIs (first-after (writesBackLine l) h s k)
+
+-- the interval with its events names the last store, the first write-back of the byte's line after it and, where it is closed, the first
+-- fence after that write-back
+pub data NamedIs (h : History) (b : ℕ) : NamedInterval → Type 0 where
+  unstored : LastStore h b 0 → NamedIs h b NoneNamed
+  stillOpen : {s w : ℕ} → LastStore h b s → s ≢ 0 → FirstBack h (lineOf b) s w →
+      ((w f : ℕ) → s < w → is (writesBackLine (lineOf b)) h w ≡ true → w < f → is fences h f ≡ true → ⊥) → NamedIs h b (OpenNamed (epochAt h s) s w)
+  nowClosed : {s w f : ℕ} → LastStore h b s → s ≢ 0 → FirstAfter (is (writesBackLine (lineOf b)) h) s w → FirstAfter (is fences h) w f →
+      NamedIs h b (ClosedNamed (epochAt h s) (epochAt h f) s w f)
+
+pub named-is : (h : History) (b : ℕ) → NamedIs h b (namedOf h b)
+unfolding backAfter
+named-is h b = go (decEq (lastStore h b) 0) (decEq (fenceAfter h (lineOf b) (lastStore h b)) 0)
+  where
+    go : Dec (lastStore h b ≡ 0) → Dec (fenceAfter h (lineOf b) (lastStore h b) ≡ 0) → NamedIs h b (namedOf h b)
+    go (yes z) d = rw (named-none h b z) (NamedIs.unstored (rw z at (last-store h b)))
+    go (no k) (yes z) =
+        rw (named-stored h b k, z)
+        (NamedIs.stillOpen (last-store h b) k (first-back h (lineOf b) (lastStore h b))
+        (λ w f a t c e. forced-closes h (record { back = w; fence = f; after = a; isBack = t; later = c; isFence = e; by = le-refl f }) .there z))
+    go (no k) (no z) =
+        let w = back-there h (lineOf b) (lastStore h b) z in
+        let e = fence-after h (lineOf b) (lastStore h b) w in
+        rw (named-stored h b k ∙ if-some (fenceAfter h (lineOf b) (lastStore h b)) _ _ z)
+        (NamedIs.nowClosed {f = fenceAfter h (lineOf b) (lastStore h b)} (last-store h b) k (first-after (writesBackLine (lineOf b)) h (lastStore h b) w)
         (rw e (first-after fences h (backAfter h (lineOf b) (lastStore h b)) (rw e at z))))

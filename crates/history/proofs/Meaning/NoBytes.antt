@@ -1,6 +1,6 @@
 -- Ranges of no bytes, in plain words: what an event with such a range does, and what it gets, after every history.
 use mathlib.Core.Path.{_≡_, refl, ap, _∙_, sym}
-use mathlib.Core.Bool.{Bool, true, false, cond, not, or-false}
+use mathlib.Core.Bool.{Bool, true, false, cond, not, _&&_, or-false}
 use mathlib.Core.Logic.{_⊎_, _↔_, inl, inr}
 use mathlib.Core.List.{[], _∷_, List·Memᴰ}
 use Prim.Native.Nat.{ℕ, suc, _≤_, _<_}
@@ -19,7 +19,7 @@ use Rattle.event.proofs.Bools.{contradiction, fails, and-left, and-right, both}
 use Rattle.window.proofs.Meaning.{empty-covers, empty-touches, covers-some, covers-first, empty-inside, empty-beyond}
 use Rattle.history.specs.Count.{count}
 use Rattle.history.specs.History.{History, is, stores, begins, ends, coversByte, coversSome, storesByte, storesSome, storesLine, writesBackLine, logsByte, OfNoBytes}
-use Rattle.history.specs.Interval.{lastStore, intervalOf}
+use Rattle.history.specs.Interval.{lastStore, intervalOf, namedOf}
 use Rattle.history.specs.Image.{pieces}
 use Rattle.history.specs.Transaction.{depth, outermost, Since}
 use Rattle.history.specs.View.{View, ofHistory}
@@ -30,7 +30,7 @@ use Rattle.history.specs.Claim.{Ended, ClaimOf, Claim}
 use Rattle.history.specs.Given.{RefusedBy}
 use Rattle.history.proofs.History.{is-unchanged, is-implied}
 use Rattle.history.proofs.Window.{any-implied}
-use Rattle.history.proofs.NoEffect.{NoEffect, is-last-unchanged, last-store-unchanged, interval-unchanged}
+use Rattle.history.proofs.NoEffect.{NoEffect, is-last-unchanged, last-store-unchanged, closing-unchanged, interval-unchanged, named-unchanged}
 use Rattle.history.proofs.Meaning.Events.{store-by-range, write-back-by-range, log-by-range}
 use Rattle.history.proofs.Meaning.Refusals.{any-range, range-any}
 
@@ -96,7 +96,8 @@ oneEventMore v =
       lastStore = v .lastStore;
       lastLog = v .lastLog;
       storedSince = v .storedSince;
-      interval = v .interval;
+      risk = v .risk;
+      closing = v .closing;
       lineStore = v .lineStore;
       lineBack = v .lineBack;
     }
@@ -110,6 +111,10 @@ module _ (r : Record) (h : History) (q : Idle (r .event)) where
   -- it opens no interval and closes none
   pub no-interval : (b : ℕ) → intervalOf (r ∷ h) b ≡ intervalOf h b
   no-interval b = interval-unchanged r h (q .noEffect) b
+
+  -- and the events that an interval goes by are those that it went by
+  pub same-events : (b : ℕ) → namedOf (r ∷ h) b ≡ namedOf h b
+  same-events b = named-unchanged r h (q .noEffect) b
 
   same-depth : depth (r ∷ h) ≡ depth h
   unfolding depth
@@ -138,7 +143,8 @@ module _ (r : Record) (h : History) (q : Idle (r .event)) where
         lastStore = λ b. last-store-unchanged r h (q .noEffect) b i;
         lastLog = λ b. is-last-unchanged (logsByte b) r h (q .noLog b) i;
         storedSince = λ b. ltb (same-begin i) (last-store-unchanged r h (q .noEffect) b i);
-        interval = λ b. no-interval b i;
+        risk = λ b. not (eqb (last-store-unchanged r h (q .noEffect) b i) 0) && eqb (closing-unchanged r h (q .noEffect) b i) 0;
+        closing = λ b. closing-unchanged r h (q .noEffect) b i;
         lineStore = λ l. is-last-unchanged (storesLine l) r h (q .noPiece l) i;
         lineBack = λ l. is-last-unchanged (writesBackLine l) r h (q .noEffect .noBack l) i;
       }

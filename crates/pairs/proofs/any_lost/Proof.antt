@@ -11,10 +11,10 @@ use Rattle.pairs.proofs.any_lost.Statement.{statement}
 use Rattle.pairs.proofs.any_lost.Tie as tie
 
 abbrev Inv-loop : tie.InvT-loop
-Inv-loop stored closed kept at n found₀ i₀ found i = (i ≤ n) × (found ≡ isFound (lowest (lostWith stored closed kept) at i))
+Inv-loop stored fenced kept at n found₀ i₀ found i = (i ≤ n) × (found ≡ isFound (lowest (lostWith stored fenced kept) at i))
 
 abbrev μ-loop : tie.MeasureT-loop
-μ-loop stored closed kept at n found₀ i₀ found i = n - i
+μ-loop stored fenced kept at n found₀ i₀ found i = n - i
 
 loop-holds : tie.Need-loop-holds Inv-loop μ-loop
 unfolding lowest

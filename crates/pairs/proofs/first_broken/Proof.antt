@@ -17,16 +17,16 @@ use Rattle.pairs.proofs.first_broken.Statement.{statement}
 use Rattle.pairs.proofs.first_broken.Tie as tie
 
 abbrev Inv-loop : tie.InvT-loop
-Inv-loop stored opened closed at n start m found₀ kept kept-end lost-end store epoch byte asked lost₀ found lost = (lost ≤ lost-end) × (found ≡ found₀) × (left (brokenPair stored opened closed kept) lost-end lost ≡ lowest (brokenPair stored opened closed kept) at n)
+Inv-loop stored fenced at n start m found₀ kept kept-end lost-end store byte asked lost₀ found lost = (lost ≤ lost-end) × (found ≡ found₀) × (left (brokenPair stored fenced kept) lost-end lost ≡ lowest (brokenPair stored fenced kept) at n)
 
 abbrev μ-loop : tie.MeasureT-loop
-μ-loop stored opened closed at n start m found₀ kept kept-end lost-end store epoch byte asked lost₀ found lost = lost-end - lost
+μ-loop stored fenced at n start m found₀ kept kept-end lost-end store byte asked lost₀ found lost = lost-end - lost
 
 abbrev Inv-kept : tie.InvT-kept
-Inv-kept stored opened closed at n start m found₀ kept₀ kept-end lost-end found kept = let p = brokenPair stored opened closed in let a : Range = record { address = at; length = n } in (kept₀ ≤ kept) × (kept ≤ kept-end) × (found ≡ found₀) × (leftPair p a kept-end kept ≡ leftPair p a kept-end kept₀)
+Inv-kept stored fenced at n start m found₀ kept₀ kept-end lost-end found kept = let p = brokenPair stored fenced in let a : Range = record { address = at; length = n } in (kept₀ ≤ kept) × (kept ≤ kept-end) × (found ≡ found₀) × (leftPair p a kept-end kept ≡ leftPair p a kept-end kept₀)
 
 abbrev μ-kept : tie.MeasureT-kept
-μ-kept stored opened closed at n start m found₀ kept₀ kept-end lost-end found kept = kept-end - kept
+μ-kept stored fenced at n start m found₀ kept₀ kept-end lost-end found kept = kept-end - kept
 
 -- the bytes that may be lost
 abbrev lost-range : tie.Start Inv-loop μ-loop Inv-kept μ-kept → Range
@@ -47,12 +47,6 @@ mul-store c = omega arith
 element-copy-out-store : tie.Need-element-copy-out-store Inv-loop μ-loop Inv-kept μ-kept
 element-copy-out-store c = omega arith
 
-mul-epoch : tie.Need-mul-epoch Inv-loop μ-loop Inv-kept μ-kept
-mul-epoch c = omega arith
-
-element-copy-out-epoch : tie.Need-element-copy-out-epoch Inv-loop μ-loop Inv-kept μ-kept
-element-copy-out-epoch c = omega arith
-
 cast-byte : tie.Need-cast-byte Inv-loop μ-loop Inv-kept μ-kept
 cast-byte c = omega arith
 
@@ -65,8 +59,8 @@ loop-holds c = let skip = c .skip-lost .ensures in (skip-inside _ _ _ skip, refl
 may-lose-requires : tie.Need-may-lose-requires Inv-loop μ-loop Inv-kept μ-kept
 may-lose-requires c κs = omega arith
 
-cast-t29 : tie.Need-cast-t29 Inv-loop μ-loop Inv-kept μ-kept
-cast-t29 c = omega arith
+cast-t24 : tie.Need-cast-t24 Inv-loop μ-loop Inv-kept μ-kept
+cast-t24 c = omega arith
 
 add-lost : tie.Need-add-lost Inv-loop μ-loop Inv-kept μ-kept
 add-lost c = omega arith
@@ -90,9 +84,9 @@ kept-again c =
     let a = s .args in
     ⊎-elim
     (λ w.
-    (omega arith, omega arith, w .5 ∙ w .3 .inv .1 ∙ k .kept .inv .2, pair-later _ (lost-range s) (a .start) (a .m) _ (k .kept .inv .3) _ (w .3 .inv .2) (omega arith) (omega arith)))
+    (omega arith, omega arith, w .4 ∙ w .2 .inv .1 ∙ k .kept .inv .2, pair-later _ (lost-range s) (a .start) (a .m) _ (k .kept .inv .3) _ (w .2 .inv .2) (omega arith) (omega arith)))
     (λ w.
-    (omega arith, omega arith, w .1 ∙ k .kept .inv .2, pair-never _ (lost-range s) (a .start) (a .m) _ (k .kept .inv .3) (never-broken (a .stored .now) (a .opened .now) (a .closed .now) (k .kept .kept) (w .0 .left)) (omega arith)))
+    (omega arith, omega arith, w .1 ∙ k .kept .inv .2, pair-never _ (lost-range s) (a .start) (a .m) _ (k .kept .inv .3) (never-broken (a .stored .now) (a .fenced .now) (k .kept .kept) (w .0 .left)) (omega arith)))
     (c .if1 .came)
 
 returns : tie.Need-returns Inv-loop μ-loop Inv-kept μ-kept
@@ -101,7 +95,7 @@ returns c = let k = c .before in let s = k .before in k .kept .inv .2 ∙ pair-n
 returns-2 : tie.Need-returns-2 Inv-loop μ-loop Inv-kept μ-kept
 returns-2 c =
     let l = c .before .before .before in
-    let k = l .before .before .before .before .before .before in
+    let k = l .before .before .before .before .before in
     let s = k .before in
     pair-here _ (lost-range s) (s .args .start) (s .args .m) _ (k .kept .inv .3) _ (l .loop .inv .2) (omega arith) (omega arith)
     (equal-by (c .before .may-lose .ensures) (c .if2 .taken))
@@ -119,13 +113,11 @@ first-broken-spec =
     kept-holds
     mul-store
     element-copy-out-store
-    mul-epoch
-    element-copy-out-epoch
     cast-byte
     skip-lost-requires
     loop-holds
     may-lose-requires
-    cast-t29
+    cast-t24
     add-lost
     loop-less
     loop-again

@@ -5,7 +5,7 @@ use Rattle.pairs.proofs.is_broken.Statement.{statement}
 use Rattle.pairs.proofs.is_broken.Tie as tie
 
 returns : tie.Need-returns
-returns c = let a = c .args in no-branch (a .kept-store) (a .lost-store) (a .one-line) (a .one-word) (a .opened) (a .closed)
+returns c = let a = c .args in no-branch (a .kept-store) (a .lost-store) (a .one-line) (a .one-word) (a .fence)
 
 pub is-broken-spec : {M : Type 1} → statement M
 is-broken-spec = tie.close (tie.spec returns)

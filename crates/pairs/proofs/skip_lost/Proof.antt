@@ -10,10 +10,10 @@ use Rattle.pairs.proofs.skip_lost.Statement.{statement}
 use Rattle.pairs.proofs.skip_lost.Tie as tie
 
 abbrev Inv-loop : tie.InvT-loop
-Inv-loop stored closed kept at n end b₀ b = let lost = lostWith stored closed kept in (at ≤ b) × (b ≤ end) × (leftSkip lost end b ≡ leftSkip lost end at)
+Inv-loop stored fenced kept at n end b₀ b = let lost = lostWith stored fenced kept in (at ≤ b) × (b ≤ end) × (leftSkip lost end b ≡ leftSkip lost end at)
 
 abbrev μ-loop : tie.MeasureT-loop
-μ-loop stored closed kept at n end b₀ b = end - b
+μ-loop stored fenced kept at n end b₀ b = end - b
 
 add-end : tie.Need-add-end Inv-loop μ-loop
 add-end c = omega arith

@@ -11,7 +11,7 @@ use Rattle.record_step.proofs.OneRecord.{unread, event-given}
 abbrev lent : tie.Start → Stage
 lent c =
     let k = c .args in
-    stage (runOf (k .counts) (k .stored .now) (k .logged .now) (k .opened .now) (k .closed .now) (k .dirtied .now) (k .backed .now)) (k .buffer .now)
+    stage (runOf (k .counts) (k .stored .now) (k .logged .now) (k .fenced .now) (k .opened .now) (k .closed .now) (k .written .now) (k .dirtied .now) (k .backed .now)) (k .buffer .now)
 
 enum-known-p : tie.Need-enum-known-p
 enum-known-p c = search needs
@@ -26,17 +26,27 @@ put-found-requires : tie.Need-put-found-requires
 put-found-requires c κs = search needs
 
 returns : tie.Need-returns
-returns c = let k = c .before .before .before .before in unread (k .args .at) (lent k) (c .before .p .given .1)
+returns c = let k = c .before .before .before .before .before .before .before in unread (k .args .at) (lent k) (c .before .p .given .1)
 
 same-length : tie.Need-same-length
 same-length c = search needs
 
+same-length-2 : tie.Need-same-length-2
+same-length-2 c = search needs
+
+same-length-3 : tie.Need-same-length-3
+same-length-3 c = search needs
+
+same-length-4 : tie.Need-same-length-4
+same-length-4 c = search needs
+
 returns-2 : tie.Need-returns-2
 returns-2 c =
-    let s = c .before .before .before .before in
-    let known = s .before .before .before .before .before .before .before .before in
-    let k = known .before .before .before in
-    event-given (k .args .at) (lent k) (known .p2 .given .1) (s .step .ensures) (c .before .before .put-found .ensures)
+    let f = c .before .before in
+    let s = f .before .before .before .before .before .before .before .before in
+    let known = s .before .before .before .before .before .before .before .before .before .before in
+    let k = known .before .before .before .before .before .before in
+    event-given (k .args .at) (lent k) (known .p2 .given .1) (s .step .ensures) (f .put-found .ensures)
 
 pub judge-record-spec : {M : Type 1} → statement M
 judge-record-spec =
@@ -48,4 +58,7 @@ judge-record-spec =
     put-found-requires
     returns
     same-length
+    same-length-2
+    same-length-3
+    same-length-4
     returns-2)

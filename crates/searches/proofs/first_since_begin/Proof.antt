@@ -6,9 +6,11 @@ use Prim.Native.Nat.{_+_, _-_, _*_, _≤_}
 use native.Mathlib.Omega.{arith}
 use borrow.Author.Needs.{needs}
 use borrow.Author.Tests.{lt-ltb}
+use Rattle.event.proofs.Laws.{equal-by}
 use Rattle.window.specs.Window.{windowBytes}
-use Rattle.searches.specs.Tests.{lostAtEnd}
-use Rattle.searches.proofs.EndLine.{line-unstored, line-searched}
+use Rattle.searches.specs.declared.Test.the-variants.{OpenSince}
+use Rattle.searches.specs.Tests.{passing, lineAtEnd, lostAtEnd}
+use Rattle.searches.proofs.EndLine.{line-passed, line-searched}
 use Rattle.searches.proofs.FromFront.{left, found-nothing}
 use Rattle.searches.proofs.Parts.{part-here, part-later}
 use Rattle.searches.proofs.Searched.{found-none, found-some}
@@ -16,10 +18,11 @@ use Rattle.searches.proofs.first_since_begin.Statement.{statement}
 use Rattle.searches.proofs.first_since_begin.Tie as tie
 
 abbrev Inv-loop : tie.InvT-loop
-Inv-loop stored closed dirtied begin lines l₀ l = (l ≤ lines) × (left (lostAtEnd begin stored closed dirtied) (0 + windowBytes lines) (l * 64) ≡ left (lostAtEnd begin stored closed dirtied) (0 + windowBytes lines) 0)
+Inv-loop stored fenced dirtied backed begin fence lines l₀ l =
+    let p = lostAtEnd begin fence stored fenced dirtied backed in (l ≤ lines) × (left p (0 + windowBytes lines) (l * 64) ≡ left p (0 + windowBytes lines) 0)
 
 abbrev μ-loop : tie.MeasureT-loop
-μ-loop stored closed dirtied begin lines l₀ l = lines - l
+μ-loop stored fenced dirtied backed begin fence lines l₀ l = lines - l
 
 lines-of-requires : tie.Need-lines-of-requires Inv-loop μ-loop
 lines-of-requires c κs = search needs
@@ -30,11 +33,20 @@ cast-lines c = omega arith
 loop-holds : tie.Need-loop-holds Inv-loop μ-loop
 loop-holds c = (omega arith, refl)
 
-mul-if1 : tie.Need-mul-if1 Inv-loop μ-loop
-mul-if1 c = omega arith
+mul-line-at-end : tie.Need-mul-line-at-end Inv-loop μ-loop
+mul-line-at-end c = omega arith
 
-element-copy-out-if1 : tie.Need-element-copy-out-if1 Inv-loop μ-loop
-element-copy-out-if1 c = omega arith
+element-copy-out-line-at-end : tie.Need-element-copy-out-line-at-end Inv-loop μ-loop
+element-copy-out-line-at-end c = omega arith
+
+mul-line-at-end-2 : tie.Need-mul-line-at-end-2 Inv-loop μ-loop
+mul-line-at-end-2 c = omega arith
+
+element-copy-out-line-at-end-2 : tie.Need-element-copy-out-line-at-end-2 Inv-loop μ-loop
+element-copy-out-line-at-end-2 c = omega arith
+
+line-at-end-requires : tie.Need-line-at-end-requires Inv-loop μ-loop
+line-at-end-requires c κs = search needs
 
 cast-line-start : tie.Need-cast-line-start Inv-loop μ-loop
 cast-line-start c = omega arith
@@ -47,7 +59,7 @@ cast-at c = omega arith
 
 first-requires : tie.Need-first-requires Inv-loop μ-loop
 first-requires c κs =
-    let l = c .before .before .before .before .loop .l in
+    let l = c .before .before .before .before .before .before .loop .l in
     let e : c .line-start .result ≡ l * 64 = c .line-start .ensures ∙ rw (lt-ltb l 64 (omega arith)) in
     omega arith
 
@@ -62,13 +74,14 @@ returns c =
     let f = c .before .before .before in
     let s = f .before in
     let t = s .before in
-    let k = t .before .before .before in
+    let o = t .before in
+    let k = o .before .before .before .before in
     let a = k .before .before .args in
     rw (k .before .lines-of .ensures) at
     (part-here _ 0 _ (k .loop .l * 64) (k .loop .inv .1) 64 (omega arith)
     (found-some _ (c .before .b .given .1)
-    (line-searched (a .counts .begin) (a .stored .now) (a .closed .now) (a .dirtied .now) (k .loop .l) (t .if1 .taken) (omega arith)
-    (s .line-start .ensures) (f .first .ensures))))
+    (line-searched (lineAtEnd (a .counts .begin) (a .counts .fence) (a .dirtied .now) (a .backed .now)) (passing (OpenSince (a .counts .begin)) (a .stored .now) (a .fenced .now))
+    (k .loop .l) (equal-by (o .line-at-end .ensures) (t .if1 .taken)) (omega arith) (s .line-start .ensures) (f .first .ensures))))
 
 add-l : tie.Need-add-l Inv-loop μ-loop
 add-l c = omega arith
@@ -78,9 +91,12 @@ loop-less c = omega arith
 
 loop-again : tie.Need-loop-again Inv-loop μ-loop
 loop-again c =
-    let k = c .before .before .before in
+    let o = c .before in
+    let k = o .before .before .before .before in
     let a = k .before .before .args in
     let l = k .loop .l in
+    let line = lineAtEnd (a .counts .begin) (a .counts .fence) (a .dirtied .now) (a .backed .now) in
+    let bytes = passing (OpenSince (a .counts .begin)) (a .stored .now) (a .fenced .now) in
     let next : (l + 1) * 64 ≡ l * 64 + 64 = omega arith in (
       omega arith,
       rw next
@@ -88,8 +104,8 @@ loop-again c =
           (⊎-elim
           (λ w.
           found-none _ (w .4 .given .1)
-          (line-searched (a .counts .begin) (a .stored .now) (a .closed .now) (a .dirtied .now) l (w .0 .taken) (omega arith) (w .1 .ensures) (w .2 .ensures)))
-          (λ w. line-unstored (a .counts .begin) (a .stored .now) (a .closed .now) (a .dirtied .now) l (w .left)) (c .if1 .came))),
+          (line-searched line bytes l (equal-by (o .line-at-end .ensures) (w .0 .taken)) (omega arith) (w .1 .ensures) (w .2 .ensures)))
+          (λ w. line-passed line bytes l (l * 64) 64 (omega arith) (omega arith) (equal-by (o .line-at-end .ensures) (w .left))) (c .if1 .came))),
     )
 
 returns-2 : tie.Need-returns-2 Inv-loop μ-loop
@@ -104,8 +120,11 @@ first-since-begin-spec =
     lines-of-requires
     cast-lines
     loop-holds
-    mul-if1
-    element-copy-out-if1
+    mul-line-at-end
+    element-copy-out-line-at-end
+    mul-line-at-end-2
+    element-copy-out-line-at-end-2
+    line-at-end-requires
     cast-line-start
     line-start-requires
     cast-at

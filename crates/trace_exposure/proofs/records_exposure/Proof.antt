@@ -14,6 +14,15 @@ no-counts-requires c κs = search needs
 slice-aggregate-give-records : tie.Need-slice-aggregate-give-records
 slice-aggregate-give-records c = search needs
 
+slice-aggregate-give-records-2 : tie.Need-slice-aggregate-give-records-2
+slice-aggregate-give-records-2 c = search needs
+
+slice-aggregate-give-records-3 : tie.Need-slice-aggregate-give-records-3
+slice-aggregate-give-records-3 c = search needs
+
+slice-aggregate-give-records-4 : tie.Need-slice-aggregate-give-records-4
+slice-aggregate-give-records-4 c = search needs
+
 give-records-requires : tie.Need-give-records-requires
 give-records-requires c κs = search needs
 
@@ -35,20 +44,21 @@ end c = let k = c .args in allJudged (k .count) (k .lines) (k .records .now) []
 
 returns : tie.Need-returns
 returns c =
-    let g = c .before .before .before .before in
-    let n = c .before .before .before .before .before .before .before .before .before .before .before .before in
+    let g = c .before .before .before .before .before .before .before in
+    let n = g .before .before .before .before .before .before .before .before .before .before in
     let k = n .before .before in
     let check = fresh-check (k .args .count) (k .args .lines) (k .args .records .now) [] (n .no-counts .ensures) (g .give-records .ensures .0) in
     ends-refused (end k) check (c .before .check .given .1)
 
 returns-2 : tie.Need-returns-2
 returns-2 c =
-    let g = c .before .before .before .before .before .before .before .before in
-    let n = g .before .before .before .before .before .before .before .before in
+    let t = c .before .before .before .before .before .before in
+    let g = t .before .before .before .before .before .before in
+    let n = g .before .before .before .before .before .before .before .before .before .before in
     let k = n .before .before in
     let check = fresh-check (k .args .count) (k .args .lines) (k .args .records .now) [] (n .no-counts .ensures) (g .give-records .ensures .0) in
     let held = fresh-stage (k .args .count) (k .args .lines) (k .args .records .now) [] (n .no-counts .ensures) (g .give-records .ensures .1) in
-    ends-passed (end k) check (c .before .before .before .before .before .enum-told .given .1) held (c .before .exposure-of .ensures) (c .answer .ensures)
+    ends-passed (end k) check (t .enum-told .given .1) held (c .before .exposure-of .ensures) (c .answer .ensures)
 
 pub records-exposure-spec : {M : Type 1} → statement M
 records-exposure-spec =
@@ -56,6 +66,9 @@ records-exposure-spec =
     (tie.spec
     no-counts-requires
     slice-aggregate-give-records
+    slice-aggregate-give-records-2
+    slice-aggregate-give-records-3
+    slice-aggregate-give-records-4
     give-records-requires
     enum-known-check
     enum-told

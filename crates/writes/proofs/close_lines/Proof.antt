@@ -12,10 +12,10 @@ use Rattle.writes.proofs.close_lines.Statement.{statement}
 use Rattle.writes.proofs.close_lines.Tie as tie
 
 abbrev Inv-loop : tie.InvT-loop
-Inv-loop closed₀ stored backed epoch fence end i₀ closed i = (i ≤ end) × (closed ≡ fencedLines fence epoch stored backed 0 i closed₀)
+Inv-loop fenced₀ stored backed number fence end i₀ fenced i = (i ≤ end) × (fenced ≡ fencedLines fence number stored backed 0 i fenced₀)
 
 abbrev μ-loop : tie.MeasureT-loop
-μ-loop closed₀ stored backed epoch fence end i₀ closed i = end - i
+μ-loop fenced₀ stored backed number fence end i₀ fenced i = end - i
 
 lines-of-requires : tie.Need-lines-of-requires Inv-loop μ-loop
 lines-of-requires c κs = search needs
@@ -24,7 +24,7 @@ cast-end : tie.Need-cast-end Inv-loop μ-loop
 cast-end c = omega arith
 
 loop-holds : tie.Need-loop-holds Inv-loop μ-loop
-loop-holds c = let a = c .before .args in (omega arith, lines-none (a .counts .fence) (a .epoch) (a .stored .now) (a .backed .now) 0 (a .closed .now))
+loop-holds c = let a = c .before .args in (omega arith, lines-none (a .counts .fence) (a .number) (a .stored .now) (a .backed .now) 0 (a .fenced .now))
 
 add-loop : tie.Need-add-loop Inv-loop μ-loop
 add-loop c = omega arith
@@ -50,11 +50,11 @@ loop-again c =
     let k = s .loop in
     let a = s .before .before .args in (
       omega arith,
-      lines-more (a .counts .fence) (a .epoch) (a .stored .now) (a .backed .now) 0 (k .i) _ (a .closed .now) (omega arith) (omega arith) (k .inv .1)
+      lines-more (a .counts .fence) (a .number) (a .stored .now) (a .backed .now) 0 (k .i) _ (a .fenced .now) (omega arith) (omega arith) (k .inv .1)
           (⊎-elim (λ w. w .3 ∙ w .2 .ensures)
           (λ w.
           w .1 ∙
-          eight-passed (a .counts .fence) (a .epoch) (a .stored .now) (a .backed .now) (k .i) (k .closed) (omega arith)
+          eight-passed (a .counts .fence) (a .number) (a .stored .now) (a .backed .now) (k .i) (k .fenced) (omega arith)
           (equal-by (c .before .any-of-eight .ensures) (w .0 .left)))
           (c .if1 .came)),
     )
@@ -69,7 +69,7 @@ returns c =
     let v = s .before in
     let a = v .before .args in
     rw (sub-zero (v .lines-of .result), v .lines-of .ensures) at
-    (lines-more (a .counts .fence) (a .epoch) (a .stored .now) (a .backed .now) 0 (k .i) (v .lines-of .result) (a .closed .now) (omega arith) (omega arith)
+    (lines-more (a .counts .fence) (a .number) (a .stored .now) (a .backed .now) 0 (k .i) (v .lines-of .result) (a .fenced .now) (omega arith) (omega arith)
     (k .inv .1) (c .close-some2 .ensures))
 
 pub close-lines-spec : {M : Type 1} → statement M

@@ -11,13 +11,13 @@ use Rattle.writes.proofs.close_some.Statement.{statement}
 use Rattle.writes.proofs.close_some.Tie as tie
 
 abbrev Inv-loop : tie.InvT-loop
-Inv-loop closed₀ stored backed from to fence epoch i₀ closed i = (from ≤ i) × (i ≤ to) × (closed ≡ fencedLines fence epoch stored backed from i closed₀)
+Inv-loop fenced₀ stored backed from to fence number i₀ fenced i = (from ≤ i) × (i ≤ to) × (fenced ≡ fencedLines fence number stored backed from i fenced₀)
 
 abbrev μ-loop : tie.MeasureT-loop
-μ-loop closed₀ stored backed from to fence epoch i₀ closed i = to - i
+μ-loop fenced₀ stored backed from to fence number i₀ fenced i = to - i
 
 loop-holds : tie.Need-loop-holds Inv-loop μ-loop
-loop-holds c = let a = c .args in (omega arith, omega arith, lines-none (a .fence) (a .epoch) (a .stored .now) (a .backed .now) (a .from) (a .closed .now))
+loop-holds c = let a = c .args in (omega arith, omega arith, lines-none (a .fence) (a .number) (a .stored .now) (a .backed .now) (a .from) (a .fenced .now))
 
 mul-back : tie.Need-mul-back Inv-loop μ-loop
 mul-back c = omega arith
@@ -44,7 +44,7 @@ loop-less : tie.Need-loop-less Inv-loop μ-loop
 loop-less c = omega arith
 
 loop-again : tie.Need-loop-again Inv-loop μ-loop
-loop-again c = let k = c .before .before .before .loop in let a = c .before .before .before .before .args in let low : k .i < 64 = omega arith in (omega arith, omega arith, lines-more (a .fence) (a .epoch) (a .stored .now) (a .backed .now) (a .from) (k .i) _ (a .closed .now) (omega arith) (omega arith) (k .inv .2) (⊎-elim (λ w. w .4 ∙ line-closed (a .fence) (a .epoch) (a .stored .now) (a .backed .now) (k .i) (k .closed) (w .0 .taken) low (w .1 .ensures) (w .3 .ensures)) (λ w. w .1 ∙ line-passed (a .fence) (a .epoch) (a .stored .now) (a .backed .now) (k .i) (k .closed) (w .0 .left)) (c .if1 .came)))
+loop-again c = let k = c .before .before .before .loop in let a = c .before .before .before .before .args in let low : k .i < 64 = omega arith in (omega arith, omega arith, lines-more (a .fence) (a .number) (a .stored .now) (a .backed .now) (a .from) (k .i) _ (a .fenced .now) (omega arith) (omega arith) (k .inv .2) (⊎-elim (λ w. w .4 ∙ line-closed (a .fence) (a .number) (a .stored .now) (a .backed .now) (k .i) (k .fenced) (w .0 .taken) low (w .1 .ensures) (w .3 .ensures)) (λ w. w .1 ∙ line-passed (a .fence) (a .number) (a .stored .now) (a .backed .now) (k .i) (k .fenced) (w .0 .left)) (c .if1 .came)))
 
 returns : tie.Need-returns Inv-loop μ-loop
 returns c = let k = c .before .loop in let same : k .i ≡ c .before .before .args .to = omega arith in rw same at (k .inv .2)

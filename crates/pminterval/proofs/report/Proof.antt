@@ -1,0 +1,15 @@
+-- `pminterval::report` meets its contract: the text has room for every report. Assumes nothing.
+use native.Mathlib.Omega.{arith}
+use Rattle.pminterval.proofs.Put.{report-whole}
+use borrow.Author.Needs.{needs}
+use Rattle.pminterval.proofs.report.Statement.{statement}
+use Rattle.pminterval.proofs.report.Tie as tie
+
+put-report-requires : tie.Need-put-report-requires
+put-report-requires c κs = search needs
+
+returns : tie.Need-returns
+returns c = let k = c .before .before .before .args in report-whole (k .input .now) (k .text .now) (omega arith) (c .put-report .ensures)
+
+pub report-spec : {M : Type 1} → statement M
+report-spec = tie.close (tie.spec put-report-requires returns)
