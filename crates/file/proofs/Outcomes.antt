@@ -20,6 +20,7 @@ use Rattle.codec.specs.Placed.{placed}
 use Rattle.codec.proofs.Placed.{placed-laid}
 use Rattle.records.specs.Record.{recordSize, recordOf, parsed}
 use Rattle.history.specs.Refused.{Limit, limit, limitsBy, firstBroken, refusalBy}
+use Rattle.limits.proofs.Parts.{part-refused, part-passed}
 use Rattle.trailer.specs.Trailer.{trailerSize, mostBytes}
 use Rattle.trace.specs.Checked.{readLimits}
 use Rattle.trace.proofs.ReadLimits.{as-read, as-unread}
@@ -27,7 +28,6 @@ use Rattle.file.specs.declared.Writer.{Writer}
 use Rattle.file.specs.declared.Written.{Written}
 use Rattle.file.specs.Limits.{lengthLimit, roomLimit}
 use Rattle.file.specs.Write.{recordsEnd, viewOf, areaFor, recordLaid, writtenFor, writeCheck, writtenOf, areaWritten, bytesCheck, bytesWrittenOf, areaBytesWritten, closeCheck}
-use Rattle.file.proofs.Parts.{part-refused, part-passed}
 
 -- the check of an event: 2, its own limits, 15
 module _ (room : ℕ) (w : Writer) (e : Event) {t : Bool} (tested : t ≡ ltb mostBytes (recordsEnd w + recordSize + trailerSize)) where

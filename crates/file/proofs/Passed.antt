@@ -10,12 +10,12 @@ use Rattle.records.specs.Record.{recordSize}
 use Rattle.history.specs.View.{View}
 use Rattle.history.specs.Refused.{limitsBy, NoneBroken, firstBroken, refusalBy}
 use Rattle.history.proofs.Given.{none-broken}
+use Rattle.limits.proofs.Parts.{none-first, none-rest}
 use Rattle.limits.proofs.Passed.{passed-unbroken}
 use Rattle.trailer.specs.Trailer.{trailerSize, mostBytes}
 use Rattle.file.specs.Limits.{roomLimit, startLimits, writeLimits, closeLimits}
 use Rattle.file.specs.declared.Writer.{Writer}
 use Rattle.file.specs.Write.{recordsEnd, closeCheck}
-use Rattle.file.proofs.Parts.{none-first, none-rest}
 
 -- an event whose record goes to a place: its own limits pass, the file with its trailer is short enough, and there is room
 pub record Fits (room at : ℕ) (v : View) (e : Event) : Type 0 where

@@ -1,30 +1,26 @@
 -- The check of an event's ranges and then that of the state are the check of all limits.
 use mathlib.Core.Path.{_≡_, refl}
-use mathlib.Core.Bool.{Bool, true, false, cond}
+use mathlib.Core.List.{List}
 use Prim.Native.Nat.{ℕ}
-use native.Mathlib.Omega.{arith}
+use lib.ListN.{take, drop}
 use Rattle.event.specs.declared.Event.{Event}
 use Rattle.event.specs.declared.Refusal.{Refusal}
-use Rattle.event.specs.declared.Refusal.the-variants.{PastWindow}
 use Rattle.event.specs.declared.Check.the-variants.{Passed, Refused}
-use Rattle.window.specs.Window.{isPast, rangesOf, anyRange, rangeCheck}
-use Rattle.history.specs.Refused.{refusalBy}
+use Rattle.window.specs.Window.{rangeCheck}
+use Rattle.history.specs.Refused.{Limit, limitsBy, refusalBy}
 use Rattle.limits.specs.Limits.{numbersOf, stateCheck}
+use Rattle.limits.proofs.Parts.{part-refused, part-passed}
 
--- where the first refuses
-pub range-refused : (lines events depth : ℕ) (e : Event) {x : Refusal} → rangeCheck lines e ≡ Refused x → Refused x ≡ refusalBy (numbersOf lines events depth) e
-unfolding refusalBy
-range-refused lines events depth e {x} k = go (anyRange (isPast lines) (rangesOf e)) k
-  where
-    go : (past : Bool) → cond past (Refused PastWindow) Passed ≡ Refused x → Refused x ≡ cond past (Refused PastWindow) (stateCheck events depth e)
-    go true f = cc
-    go false f = let z : _≡_ {A = ℕ} 0 1 = cc in absurd (omega arith)
+module _ (lines events depth : ℕ) (e : Event) where
+  abbrev limits : List Limit
+  limits = limitsBy (numbersOf lines events depth) e
 
--- where it passes
-pub range-passed : (lines events depth : ℕ) (e : Event) → rangeCheck lines e ≡ Passed → stateCheck events depth e ≡ refusalBy (numbersOf lines events depth) e
-unfolding refusalBy
-range-passed lines events depth e k = go (anyRange (isPast lines) (rangesOf e)) k
-  where
-    go : (past : Bool) → cond past (Refused PastWindow) Passed ≡ Passed → stateCheck events depth e ≡ cond past (Refused PastWindow) (stateCheck events depth e)
-    go true f = let z : _≡_ {A = ℕ} 0 1 = cc in absurd (omega arith)
-    go false f = refl
+  -- where the first refuses
+  pub range-refused : {x : Refusal} → rangeCheck lines e ≡ Refused x → Refused x ≡ refusalBy (numbersOf lines events depth) e
+  unfolding refusalBy
+  range-refused k = part-refused (take 1 limits) (drop 1 limits) k
+
+  -- where it passes
+  pub range-passed : rangeCheck lines e ≡ Passed → stateCheck events depth e ≡ refusalBy (numbersOf lines events depth) e
+  unfolding refusalBy
+  range-passed k = part-passed (take 1 limits) (drop 1 limits) k refl

@@ -8,7 +8,7 @@ use Rattle.event.proofs.Laws.{equal-by}
 use Rattle.window.specs.Window.{badLines}
 use Rattle.history.specs.Refused.{Limit, limit}
 use Rattle.file.specs.Limits.{lengthLimit, roomLimit}
-use Rattle.file.proofs.Parts.{part-refused, part-passed}
+use Rattle.limits.proofs.Parts.{part-refused, part-passed}
 use Rattle.writer.proofs.check_start.Statement.{statement}
 use Rattle.writer.proofs.check_start.Tie as tie
 

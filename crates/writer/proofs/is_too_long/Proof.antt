@@ -1,7 +1,7 @@
 -- `writer::is_too_long` meets its contract.
 -- Assumes nothing.
 use borrow.Author.Needs.{needs}
-use Rattle.file.proofs.Parts.{length-tested}
+use Rattle.file.proofs.Length.{length-tested}
 use Rattle.writer.proofs.is_too_long.Statement.{statement}
 use Rattle.writer.proofs.is_too_long.Tie as tie
 

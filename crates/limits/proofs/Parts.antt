@@ -2,15 +2,10 @@
 use mathlib.Core.Path.{_≡_, refl, sym, ap, _∙_}
 use mathlib.Core.Bool.{Bool, true, false, cond}
 use mathlib.Core.List.{List, [], _∷_, _++_}
-use Prim.Native.Nat.{ℕ, _+_}
-use native.Mathlib.Omega.{arith}
-use lib.Dec.{ltb}
-use borrow.Author.Tests.{lt-ltb, le-ltb, ltb-true, ltb-false}
 use Rattle.event.specs.declared.Refusal.{Refusal}
 use Rattle.event.specs.declared.Check.{Check}
 use Rattle.event.specs.declared.Check.the-variants.{Passed, Refused}
 use Rattle.history.specs.Refused.{Limit, NoneBroken, firstBroken}
-use Rattle.trailer.specs.Trailer.{trailerSize, mostBytes}
 
 -- the first part decides where it refuses, and else the rest does
 abbrev either : Check → Check → Check
@@ -41,11 +36,3 @@ none-first (x ∷ part) rest (NoneBroken.cons e k) = NoneBroken.cons e (none-fir
 pub none-rest : (part rest : List Limit) → NoneBroken (part ++ rest) → NoneBroken rest
 none-rest [] rest k = k
 none-rest (x ∷ part) rest (NoneBroken.cons e k) = none-rest part rest k
-
--- the limit 2, without a sum that could wrap
-pub length-tested : (end : ℕ) → ltb 65520 end ≡ ltb mostBytes (end + trailerSize)
-length-tested end = go (ltb 65520 end) refl
-  where
-    go : (b : Bool) → ltb 65520 end ≡ b → b ≡ ltb mostBytes (end + trailerSize)
-    go true e = let k = ltb-true 65520 end e in sym (lt-ltb mostBytes (end + trailerSize) (omega arith))
-    go false e = let k = ltb-false 65520 end e in sym (le-ltb mostBytes (end + trailerSize) (omega arith))
