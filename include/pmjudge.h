@@ -60,7 +60,8 @@ enum pmjudge_refusal {
     PMJUDGE_AREA_TOO_SHORT = 14,      /* a findings area under 12 bytes for each record */
     PMJUDGE_FILE_AREA_TOO_SHORT = 15, /* a writer's area without room for what a call puts there */
     PMJUDGE_PAGE_AREA_TOO_SHORT = 16, /* a page area shorter than the pages */
-    PMJUDGE_NO_BYTE_CLOSED = 17       /* a mean exposure where no byte is closed */
+    PMJUDGE_NO_BYTE_CLOSED = 17,      /* a mean exposure where no byte is closed */
+    PMJUDGE_SHARED_BYTE = 18          /* an ordered whose A and B share a byte; checked after 9 */
 };
 
 /*
@@ -75,7 +76,7 @@ enum pmjudge_event {
     PMJUDGE_LOG = 5,        /* A goes into the undo log */
     PMJUDGE_END = 6,        /* a transaction ends */
     PMJUDGE_PERSISTED = 7,  /* assert that A is durable now */
-    PMJUDGE_ORDERED = 8     /* assert that A is durable before B */
+    PMJUDGE_ORDERED = 8     /* assert that A is durable before B; they share no byte */
 };
 
 /* The kinds of finding. */
@@ -97,7 +98,8 @@ enum pmjudge_finding {
  * answer[0] is the refusal, PMJUDGE_ACCEPTED if there is none, and answer[1] the number of the
  * record refused: from 1, and 0 if no record is meant. answer[2] to answer[4] are the events, the
  * fences and the findings other than PMJUDGE_NONE; all 0 for a refused trace. A trace is refused by
- * the first number that applies: 1 to 5, 14; then record by record 6, 7, 9 to 12; then 13.
+ * the first number that applies: 1 to 5, 14; then record by record 6, 7, 9, 18, 10 to 12; then
+ * 13.
  *
  * An accepted trace puts its findings at the area's start, PMJUDGE_FINDING_SIZE bytes for each
  * record in order: the kind, a zero byte, then lost, kept, moment, store and site, 16 bits each with
@@ -138,7 +140,7 @@ void pmjudge_writer_start(uint8_t *area, size_t area_length, const uint8_t *prea
  * in bytes from the window's start, and 0, as their lengths, where the kind lacks the range. The
  * site is any number that tells the caller where the event comes from, for instance a source line.
  * Refused by the first that applies: 2, a trace that with this event and a trailer has over 65,536
- * bytes; 6, 7, 9 to 12, where the judge would refuse the record at this place; 15.
+ * bytes; 6, 7, 9, 18, 10 to 12, where the judge would refuse the record at this place; 15.
  */
 void pmjudge_writer_event(uint8_t *area, size_t area_length, uint32_t writer[4], uint8_t kind,
                           uint16_t a, uint16_t a_length, uint16_t b, uint16_t b_length,
@@ -186,8 +188,8 @@ void pmjudge_pages(const uint8_t *findings, size_t findings_length, uint8_t *are
  * record refused: from 1, and 0 if no record is meant. answer[2] to answer[4] are quotient, remainder
  * and divisor; all 0 for a refused trace. The divisor is the number of bytes closed, and quotient *
  * divisor + remainder the sum, with the remainder below the divisor; the mean is 1 at least. A trace
- * is refused by the first number that applies: 1 to 5; then record by record 6, 7, 9 to 12; then 13;
- * then 17.
+ * is refused by the first number that applies: 1 to 5; then record by record 6, 7, 9, 18, 10 to 12;
+ * then 13; then 17.
  *
  * A call takes about 50 KB of the caller's stack: 49,408 bytes for tables, and little more.
  */
@@ -212,8 +214,8 @@ enum pmjudge_interval_state {
  * are events, by their record's number from 1: the last store, the first write-back after it, and the
  * closing fence; answer[8] to answer[10] are the sites of these three. What an answer lacks is 0: an
  * open interval has no fence, and has no write-back where there is none yet. A trace is refused by
- * the first number that applies: 1 to 5; then record by record 6, 7, 9 to 12; then 13; and then the
- * byte by 9 with the record 0, where it is past the trace's window.
+ * the first number that applies: 1 to 5; then record by record 6, 7, 9, 18, 10 to 12; then 13; and
+ * then the byte by 9 with the record 0, where it is past the trace's window.
  *
  * A call takes about 100 KB of the caller's stack: 49,408 bytes for tables, as many for a copy of
  * them that is asked, and little more.

@@ -175,6 +175,12 @@ static void events(void)
     EXPECT(refused(PMJUDGE_PAST_WINDOW));
     event(PMJUDGE_LOG, 121, 8);
     EXPECT(refused(PMJUDGE_PAST_WINDOW));
+    event_in(AREA, PMJUDGE_ORDERED, 120, 9, 120, 8); /* they share bytes too */
+    EXPECT(refused(PMJUDGE_PAST_WINDOW));
+    event_in(0, PMJUDGE_ORDERED, 0, 8, 0, 8); /* there is no room either */
+    EXPECT(refused(PMJUDGE_SHARED_BYTE));
+    event_in(AREA, PMJUDGE_ORDERED, 120, 8, 127, 1);
+    EXPECT(refused(PMJUDGE_SHARED_BYTE));
     event(PMJUDGE_LOG, 120, 8);
     EXPECT(refused(PMJUDGE_NO_TRANSACTION));
     event(PMJUDGE_LOG, 128, 0);
@@ -237,6 +243,21 @@ static void longest(void)
     EXPECT(unexposed(PMJUDGE_TRAILER_SIZE - 1, PMJUDGE_TRACE_TOO_SHORT, 0));
     EXPECT(unasked(PMJUDGE_MOST_BYTES + 1, 0, PMJUDGE_TRACE_TOO_LONG, 0));
     EXPECT(unasked(PMJUDGE_TRAILER_SIZE - 1, 0, PMJUDGE_TRACE_TOO_SHORT, 0));
+}
+
+/* An ordered whose B starts behind A, and then, by a changed byte, with A's last byte. */
+static void shared_ranges(void)
+{
+    start(AREA, 0, 1);
+    event(PMJUDGE_STORE, 0, 8);
+    event_in(AREA, PMJUDGE_ORDERED, 0, 8, 8, 8);
+    event(PMJUDGE_FENCE, 0, 0);
+    end_file(AREA);
+    EXPECT(judged(answer[1], sizeof findings, PMJUDGE_ACCEPTED, 0));
+    area[PMJUDGE_RECORD_SIZE + 6] = 7; /* the address of B */
+    EXPECT(judged(answer[1], sizeof findings, PMJUDGE_SHARED_BYTE, 2));
+    EXPECT(unexposed(answer[1], PMJUDGE_SHARED_BYTE, 2));
+    EXPECT(unasked(answer[1], 64, PMJUDGE_SHARED_BYTE, 2));
 }
 
 /* Refusals of a judge, a mean exposure and a byte asked for, by changed bytes of a fence's trace. */
@@ -302,6 +323,9 @@ static void kinds_of_finding(void)
         {PMJUDGE_ORDERED, 0, 8, 64, 8, PMJUDGE_OUT_OF_ORDER},
         {PMJUDGE_ORDERED, 0, 0, 64, 8, PMJUDGE_HOLDS},
         {PMJUDGE_ORDERED, 0, 8, 64, 0, PMJUDGE_HOLDS},
+        /* ranges that touch, and one of no bytes inside the other: they share no byte */
+        {PMJUDGE_ORDERED, 8, 8, 0, 8, PMJUDGE_HOLDS},
+        {PMJUDGE_ORDERED, 0, 8, 4, 0, PMJUDGE_HOLDS},
     };
     size_t count = sizeof given / sizeof given[0], at;
     start(AREA, 0, 3);
@@ -514,6 +538,7 @@ int main(void)
     closings();
     longest();
     changed_bytes();
+    shared_ranges();
     kinds_of_finding();
     memset(pages, 0x5a, sizeof pages);
     pages_of_a_trace();

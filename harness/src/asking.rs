@@ -26,7 +26,7 @@ pub struct Asking {
 
 /// The numbers that a trace can be refused by. No trace is long enough for 10, and there is no findings
 /// area for 14; 8 is not given any more.
-const REFUSALS: [u32; 11] = [1, 2, 3, 4, 5, 6, 7, 9, 11, 12, 13];
+const REFUSALS: [u32; 12] = [1, 2, 3, 4, 5, 6, 7, 9, 18, 11, 12, 13];
 
 /// How many bytes of a trace of any sort are asked.
 const BYTES: usize = 3;
@@ -381,8 +381,13 @@ pub mod tests {
     use super::*;
     use crate::differential::given;
     use crate::interval::interval;
-    use crate::no_bytes::tests::{back_to_size, beyond_size, hidden, replaced, with_8, with_byte};
+    use crate::no_bytes::tests::{
+        back_to_size, beyond_size, changed, hidden, replaced, with_8, with_byte,
+    };
     use crate::plain;
+    use crate::shared::tests::{
+        refuse_before_9, refuse_empty_inside, refuse_touching, take_last_byte, take_shared,
+    };
 
     pub const RIGHT: Asking = Asking {
         name: "right",
@@ -394,7 +399,7 @@ pub mod tests {
     }
 
     /// Calls that refuse otherwise.
-    const WRONG_REFUSALS: [Asking; 11] = [
+    const WRONG_REFUSALS: [Asking; 17] = [
         wrong("gives no 9 past the window", |trace, byte, answer| {
             interval(trace, byte, answer);
             if answer[..2] == [9, 0] {
@@ -469,6 +474,28 @@ pub mod tests {
                 interval(&replaced(trace, back_to_size), byte, answer);
             },
         ),
+        wrong("takes ranges that share a byte", |trace, byte, answer| {
+            interval(&changed(trace, take_shared), byte, answer);
+        }),
+        wrong(
+            "takes ranges that share a last byte",
+            |trace, byte, answer| {
+                interval(&changed(trace, take_last_byte), byte, answer);
+            },
+        ),
+        wrong("refuses ranges that touch by 18", |trace, byte, answer| {
+            interval(&changed(trace, refuse_touching), byte, answer);
+        }),
+        wrong("refuses no bytes inside by 18", |trace, byte, answer| {
+            interval(&changed(trace, refuse_empty_inside), byte, answer);
+        }),
+        wrong("gives 18 before 9", |trace, byte, answer| {
+            interval(&changed(trace, refuse_before_9), byte, answer);
+        }),
+        wrong("gives 18 with a number from 0", |trace, byte, answer| {
+            interval(trace, byte, answer);
+            answer[1] -= u32::from(answer[0] == 18);
+        }),
     ];
 
     /// Calls that answer what no interval can be, which needs no model to be seen.

@@ -1,8 +1,8 @@
 //! `differential`: judges compared with the unrelated checker on random traces.
 
 use crate::judge::Answer;
-use crate::no_bytes;
 use crate::progress::Progress;
+use crate::{no_bytes, shared};
 use reference::event::LINE;
 use reference::finding::{Finding, Kind};
 use reference::outcome::{findings_bytes, Outcome};
@@ -136,7 +136,7 @@ pub fn given(seed: u64, number: u64) -> Given {
 }
 
 /// A trace, valid or damaged: mostly short, some long or near the longest, some of any bytes. One in eight gets ranges of
-/// no bytes.
+/// no bytes, and one in eight those of `shared`.
 pub fn drawn(random: &mut Random) -> Vec<u8> {
     let shape = shape(random);
     let (mut trace, most_damages) = match random.below(500) {
@@ -156,6 +156,9 @@ pub fn drawn(random: &mut Random) -> Vec<u8> {
     }
     if random.chance(1, 8) {
         no_bytes::put_some(random, &mut trace);
+    }
+    if random.chance(1, 8) {
+        shared::put_some(random, &mut trace);
     }
     trace
 }
@@ -347,13 +350,13 @@ fn area_case(body: Option<&Body>, area_len: usize) -> usize {
 struct Counts {
     traces: u64,
     records: u64,
-    /// Accepted at 0, refused by a number at that number.
-    answers: [u64; 15],
+    answers: Answers,
     /// By the finding's number.
     findings: [u64; 9],
     /// Traces with a pair out of order that one store set on one line, and those pairs.
     torn: [u64; 2],
     no_bytes: no_bytes::Counts,
+    shared: shared::Counts,
     areas: [u64; 5],
 }
 
@@ -371,6 +374,7 @@ impl Counts {
         }
         add_each(&mut self.torn, &[torn.min(1), torn]);
         self.no_bytes.add(&given.trace, outcome);
+        self.shared.add_trace(&given.trace, outcome);
     }
 
     fn named(&self) -> Vec<(String, u64)> {
@@ -388,6 +392,7 @@ impl Counts {
         named.push(("traces with a torn store out of order".to_string(), traces));
         named.push(("pairs out of order of a torn store".to_string(), pairs));
         named.extend(self.no_bytes.named());
+        named.extend(self.shared.named());
         let areas = AREAS.iter().zip(self.areas);
         named.extend(areas.map(|(name, count)| (format!("area {name}"), count)));
         named
@@ -402,6 +407,7 @@ impl AddAssign for Counts {
         add_each(&mut self.findings, &other.findings);
         add_each(&mut self.torn, &other.torn);
         self.no_bytes += other.no_bytes;
+        self.shared += other.shared;
         add_each(&mut self.areas, &other.areas);
     }
 }
@@ -421,19 +427,17 @@ pub fn add_each(counts: &mut [u64], others: &[u64]) {
 /// The name of answers refused by 10, which no trace is long enough for.
 const IMPOSSIBLE: &str = "refused by 10";
 
-/// The number that is not given any more.
-const NO_REFUSAL: usize = 8;
+/// The numbers that a trace can be refused by. 8 is not given any more.
+const REFUSALS: [usize; 14] = [1, 2, 3, 4, 5, 6, 7, 9, 18, 10, 11, 12, 13, 14];
 
-pub fn named_answers(answers: &[u64; 15]) -> impl Iterator<Item = (String, u64)> + '_ {
-    let given = answers.iter().enumerate();
-    let given = given.filter(|&(number, _)| number != NO_REFUSAL);
-    given.map(|(number, &count)| {
-        let name = match number {
-            0 => "accepted".to_string(),
-            _ => format!("refused by {number}"),
-        };
-        (name, count)
-    })
+/// Counts of answers: accepted at 0, refused by a number at that number.
+pub type Answers = [u64; 19];
+
+pub fn named_answers(answers: &Answers) -> Vec<(String, u64)> {
+    let mut named = vec![("accepted".to_string(), answers[0])];
+    let refused = REFUSALS.map(|number| (format!("refused by {number}"), answers[number]));
+    named.extend(refused);
+    named
 }
 
 /// A line for each count; an error where one is 0 that `all` asks for.
@@ -646,10 +650,14 @@ pub mod tests {
     use super::*;
     use crate::judge::judge;
     use crate::no_bytes::tests::{
-        back_to_size, beyond_size, hidden, replaced, set_empty_ends, set_findings, with_8,
+        back_to_size, beyond_size, changed, hidden, replaced, set_empty_ends, set_findings, with_8,
         with_byte,
     };
     use crate::plain::tests::{judge_from_start, judge_whole};
+    use crate::shared::tests::{
+        first_refused, refuse_before_9, refuse_empty_inside, refuse_touching, take_last_byte,
+        take_shared,
+    };
     use reference::event::Event;
 
     pub const RIGHT: Judge = Judge {
@@ -658,7 +666,7 @@ pub mod tests {
     };
 
     /// Judges that do something wrong, which needs no model to be seen.
-    pub const WRONG: [Judge; 8] = [
+    pub const WRONG: [Judge; 14] = [
         wrong("flips a kind byte", |trace, area| {
             let answer = judge(trace, area);
             flip(answer, area, |_| 0, 0x80)
@@ -720,6 +728,30 @@ pub mod tests {
                 accepted => accepted,
             }
         }),
+        wrong("takes ranges that share a byte", |trace, area| {
+            judge(&changed(trace, take_shared), area)
+        }),
+        wrong("takes ranges that share a last byte", |trace, area| {
+            judge(&changed(trace, take_last_byte), area)
+        }),
+        wrong("refuses ranges that touch by 18", |trace, area| {
+            judge(&changed(trace, refuse_touching), area)
+        }),
+        wrong("refuses no bytes inside by 18", |trace, area| {
+            judge(&changed(trace, refuse_empty_inside), area)
+        }),
+        wrong("gives 18 before 9", |trace, area| {
+            judge(&changed(trace, refuse_before_9), area)
+        }),
+        wrong("gives 18 with a number from 0", |trace, area| {
+            match judge(trace, area) {
+                Answer::Refused { number: 18, record } => Answer::Refused {
+                    number: 18,
+                    record: record - 1,
+                },
+                answer => answer,
+            }
+        }),
     ];
 
     /// Flips bits of the site in the last finding, which only a model can tell.
@@ -772,6 +804,17 @@ pub mod tests {
         }),
     ];
 
+    /// Looks for shared bytes in all records first, which only a model can tell.
+    const WRONG_ORDER: Judge = wrong("gives 18 before an earlier record's", |trace, area| match (
+        judge(trace, area),
+        first_refused(trace),
+    ) {
+        (Answer::Refused { record: 1.., .. }, Some(record)) => {
+            Answer::Refused { number: 18, record }
+        }
+        (answer, _) => answer,
+    });
+
     const fn wrong(name: &'static str, call: fn(&[u8], &mut [u8]) -> Answer) -> Judge {
         Judge { name, call }
     }
@@ -805,7 +848,8 @@ pub mod tests {
     #[test]
     fn every_wrong_judge_is_found() {
         let by_model = WRONG_WORDS.iter().chain(&WRONG_NO_BYTES);
-        for judge in WRONG.iter().chain([&WRONG_SITE]).chain(by_model) {
+        let by_model = by_model.chain([&WRONG_SITE, &WRONG_ORDER]);
+        for judge in WRONG.iter().chain(by_model) {
             let found = difference(&[RIGHT, *judge]);
             assert_eq!(found.judge, judge.name);
             let again = difference(&[*judge]);

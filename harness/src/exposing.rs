@@ -24,7 +24,7 @@ pub struct Exposing {
 
 /// The numbers that a trace can be refused by. No trace is long enough for 10, and there is no
 /// findings area for 14; 8 is not given any more.
-pub const REFUSALS: [u32; 12] = [1, 2, 3, 4, 5, 6, 7, 9, 11, 12, 13, 17];
+pub const REFUSALS: [u32; 13] = [1, 2, 3, 4, 5, 6, 7, 9, 18, 11, 12, 13, 17];
 
 /// Every number that this divides has a second trace, of wide stores.
 const EVERY: u64 = 20;
@@ -282,8 +282,13 @@ pub mod tests {
     use super::*;
     use crate::differential::given;
     use crate::exposure::exposure;
-    use crate::no_bytes::tests::{back_to_size, beyond_size, hidden, replaced, with_8, with_byte};
+    use crate::no_bytes::tests::{
+        back_to_size, beyond_size, changed, hidden, replaced, with_8, with_byte,
+    };
     use crate::plain;
+    use crate::shared::tests::{
+        refuse_before_9, refuse_empty_inside, refuse_touching, take_last_byte, take_shared,
+    };
     use reference::direct::Run;
     use reference::{singly, Epochs};
 
@@ -293,7 +298,7 @@ pub mod tests {
     };
 
     /// Calls that answer what no call may, which needs no model to be seen.
-    pub const WRONG: [Exposing; 9] = [
+    pub const WRONG: [Exposing; 15] = [
         wrong("exchanges quotient and remainder", |trace, answer| {
             exposure(trace, answer);
             answer.swap(2, 3);
@@ -337,6 +342,25 @@ pub mod tests {
                 exposure(&replaced(trace, back_to_size), answer);
             },
         ),
+        wrong("takes ranges that share a byte", |trace, answer| {
+            exposure(&changed(trace, take_shared), answer);
+        }),
+        wrong("takes ranges that share a last byte", |trace, answer| {
+            exposure(&changed(trace, take_last_byte), answer);
+        }),
+        wrong("refuses ranges that touch by 18", |trace, answer| {
+            exposure(&changed(trace, refuse_touching), answer);
+        }),
+        wrong("refuses no bytes inside by 18", |trace, answer| {
+            exposure(&changed(trace, refuse_empty_inside), answer);
+        }),
+        wrong("gives 18 before 9", |trace, answer| {
+            exposure(&changed(trace, refuse_before_9), answer);
+        }),
+        wrong("gives 18 with a number from 0", |trace, answer| {
+            exposure(trace, answer);
+            answer[1] -= u32::from(answer[0] == 18);
+        }),
     ];
 
     /// Calls with another sum or another divisor.

@@ -2,13 +2,13 @@
 
 use crate::differential::{
     add_each, answer_text, bytes, counted, first_different, named_answers, random_for, saved,
-    spread, target_file, threads, Given, Judge, Returned,
+    spread, target_file, threads, Answers, Given, Judge, Returned,
 };
 use crate::judge::Answer;
-use crate::no_bytes;
+use crate::{no_bytes, shared};
 use reference::event::{Event, Range, LINE, MAX_DEPTH};
 use reference::random::Random;
-use reference::trace::{raw_record, raw_trailer, MARK, MAX_TRACE, RECORD, TRAILER};
+use reference::trace::{self, raw_record, raw_trailer, MARK, MAX_TRACE, RECORD, TRAILER};
 use std::fmt::Write;
 use std::ops::AddAssign;
 use std::path::Path;
@@ -102,8 +102,8 @@ fn plausible(random: &mut Random) -> Vec<u8> {
     with_trailer(string, records.len(), lines)
 }
 
-/// Records with fields at edges, in some strings none, in others many; the ends of the open
-/// transactions follow in most.
+/// Records with fields at edges, in some strings none, in others many; in some strings ordered whose ranges share a
+/// byte; the ends of the open transactions follow in most.
 fn plausible_records(random: &mut Random, lines: u16) -> Vec<[u8; RECORD]> {
     let count = match random.below(300) {
         0 => random.below(MAX_TRACE / RECORD),
@@ -111,6 +111,10 @@ fn plausible_records(random: &mut Random, lines: u16) -> Vec<[u8; RECORD]> {
         _ => random.below(40),
     };
     let edges = random.pick(&[0, 0, 1, 10, 100]);
+    let sharing = match random.below(8) {
+        0 => random.pick(&[1, 4]),
+        _ => 0,
+    };
     let nested = random.chance(1, 8);
     let mut records = Vec::with_capacity(count + MAX_DEPTH);
     let mut depth = 0;
@@ -121,7 +125,10 @@ fn plausible_records(random: &mut Random, lines: u16) -> Vec<[u8; RECORD]> {
             Event::END => depth -= 1,
             _ => {}
         }
-        records.push(plausible_record(random, kind, lines, edges));
+        let mut record = plausible_record(random, kind, lines, edges);
+        set_pair(random, &mut record, lines, sharing);
+        set_edges(random, &mut record, edges);
+        records.push(record);
     }
     if random.chance(9, 10) {
         let end = raw_record(Event::END, 0, Range::new(0, 0), Range::new(0, 0), 7);
@@ -147,7 +154,7 @@ fn plausible_kind(random: &mut Random, depth: usize, nested: bool) -> u8 {
     }
 }
 
-/// A record of this kind. Of 1,000 values so many are at edges, its kind among them.
+/// A record of this kind.
 fn plausible_record(random: &mut Random, kind: u8, lines: u16, edges: usize) -> [u8; RECORD] {
     let nothing = Range::new(0, 0);
     let mut range = || small_range(random, lines, edges);
@@ -156,7 +163,23 @@ fn plausible_record(random: &mut Random, kind: u8, lines: u16, edges: usize) -> 
         Event::ORDERED => (range(), range()),
         _ => (range(), nothing),
     };
-    let mut record = raw_record(kind, 0, a, b, random.bits() as u16);
+    raw_record(kind, 0, a, b, random.bits() as u16)
+}
+
+/// Of 16 ordered so many get ranges that share a byte, some of them past the window. The others share none.
+fn set_pair(random: &mut Random, record: &mut [u8; RECORD], lines: u16, sharing: usize) {
+    let window = usize::from(lines) * LINE;
+    if random.chance(sharing, 16) {
+        let drawn = [shared::sharing, shared::sharing, shared::past];
+        let drawn = random.pick(&drawn);
+        shared::put(random, record, window, drawn);
+    } else if shared::refused_by_18(record, window) {
+        shared::put(random, record, window, shared::beside);
+    }
+}
+
+/// Of 1,000 values of a record so many are set to edges, its kind among them.
+fn set_edges(random: &mut Random, record: &mut [u8; RECORD], edges: usize) {
     if random.chance(edges, 1_000) {
         record[0] = random.pick(&[0, 4, 5, 6, 9, 128, 255]);
     }
@@ -169,7 +192,6 @@ fn plausible_record(random: &mut Random, kind: u8, lines: u16, edges: usize) -> 
             field.copy_from_slice(&value.to_le_bytes());
         }
     }
-    record
 }
 
 /// A range inside the window. One in eight has no byte; of 200 of these so many are beyond it.
@@ -268,6 +290,7 @@ fn violation(given: &Given, returned: &Returned) -> Option<String> {
             let written = given.area.start..given.area.start + written;
             bad_findings(&returned.buffer[written.clone()], answer)
                 .or_else(|| changed(given, returned, written))
+                .or_else(|| passed_shared(&given.trace, events))
         }
     }
 }
@@ -277,9 +300,34 @@ fn bad_refusal(given: &Given, number: u32, record: u32) -> Option<String> {
         1..=5 | 13 | 14 => record == 0,
         // No trace is long enough for number 10, and 8 is not given any more.
         6 | 7 | 9 | 11 | 12 => record >= 1 && Some(record) <= trailer_count(&given.trace),
+        18 => shared_at(&given.trace, record),
         _ => false,
     };
-    (!good).then(|| "no such refusal".to_string())
+    if !good {
+        return Some("no such refusal".to_string());
+    }
+    match number {
+        13 => passed_shared(&given.trace, u32::MAX),
+        _ => passed_shared(&given.trace, record.saturating_sub(1)),
+    }
+}
+
+/// Whether the record with this number is one that 18 refuses.
+fn shared_at(string: &[u8], record: u32) -> bool {
+    let Ok(body) = trace::open(string) else {
+        return false;
+    };
+    let at = (record as usize).checked_sub(1);
+    let record = at.and_then(|at| body.record_bytes().nth(at));
+    record.is_some_and(|record| shared::refused_by_18(record, no_bytes::window(&body)))
+}
+
+/// An ordered whose ranges share a byte among so many first records, which were not refused.
+fn passed_shared(string: &[u8], records: u32) -> Option<String> {
+    let body = trace::open(string).ok()?;
+    let mut passed = body.record_bytes().take(records as usize);
+    let at = passed.position(shared::shares)?;
+    Some(format!("record {} was not refused by 18", at + 1))
 }
 
 /// Findings with bytes that no finding has, or with another number of them than answered.
@@ -321,8 +369,7 @@ fn changed(given: &Given, returned: &Returned, written: std::ops::Range<usize>) 
 #[derive(Clone, Default)]
 struct Counts {
     bytes: u64,
-    /// Accepted at 0, refused by a number at that number.
-    answers: [u64; 15],
+    answers: Answers,
     classes: [u64; CLASSES.len()],
     accepted: [u64; CLASSES.len()],
     /// Accepted with a range of no bytes.
@@ -577,6 +624,34 @@ mod tests {
             assert_eq!(bad(number, 2), !at_record);
             assert!(bad(number, 3));
         }
+    }
+
+    #[test]
+    fn an_ordered_whose_ranges_share_a_byte_is_refused_by_18_and_not_passed() {
+        let given = |a, b| {
+            let (fence, nothing) = (Event::FENCE, Range::new(0, 0));
+            let mut string = raw_record(fence, 0, nothing, nothing, 0).to_vec();
+            string.extend(raw_record(Event::ORDERED, 0, a, b, 0));
+            Given::new(&mut Random::new(1), with_trailer(string, 2, 1), 24)
+        };
+        let shared = given(Range::new(0, 8), Range::new(7, 8));
+        assert_eq!(bad_refusal(&shared, 18, 2), None);
+        assert_eq!(bad_refusal(&shared, 9, 2), None);
+        for (number, record) in [(18, 0), (18, 1), (18, 3), (13, 0)] {
+            assert!(bad_refusal(&shared, number, record).is_some());
+        }
+        assert!(passed_shared(&shared.trace, 2).is_some());
+        assert_eq!(passed_shared(&shared.trace, 1), None);
+        for (a, b) in [
+            (Range::new(0, 8), Range::new(8, 8)),
+            (Range::new(0, 8), Range::new(4, 0)),
+        ] {
+            let apart = given(a, b);
+            assert!(bad_refusal(&apart, 18, 2).is_some());
+            assert_eq!(passed_shared(&apart.trace, 2), None);
+        }
+        let past = given(Range::new(0, 8), Range::new(7, 58));
+        assert!(bad_refusal(&past, 18, 2).is_some());
     }
 
     #[test]

@@ -223,7 +223,8 @@ mod tests {
     use crate::workloads::tests::hash;
     use reference::{pages, Kind};
 
-    /// Times of this version are compared with those of others.
+    /// Times of this version are compared with those of others. The first series and the traces of the exposures changed
+    /// once, for 18.
     #[test]
     fn the_traces_are_those_of_every_version() {
         let of_series = |traces: &[(u16, Vec<u8>)]| {
@@ -234,14 +235,14 @@ mod tests {
         let exposed = exposed_traces().into_iter().flat_map(|(_, trace)| trace);
         let exposed = hash(&exposed.collect::<Vec<u8>>());
         let expected = [
-            0xf9d1_8618_070d_7d4a,
+            0xebb4_a608_f142_2790,
             0xf198_b91c_c53d_3edb,
             0x312a_9eec_b521_7218,
             0x60c5_7d36_6331_39c8,
             0xcbf5_2d50_510c_7088,
         ];
         assert_eq!(hashes, expected, "{hashes:#x?}");
-        assert_eq!(exposed, 0xf942_7f06_1fd4_9a0f, "{exposed:#x}");
+        assert_eq!(exposed, 0xb793_6a80_93f3_5b60, "{exposed:#x}");
     }
 
     #[test]

@@ -1,8 +1,8 @@
 //! Random lists of calls to a writer.
 
 use crate::differential::bytes;
-use crate::no_bytes;
 use crate::writer::Call;
+use crate::{no_bytes, shared};
 use reference::event::{Event, Range, LINE, MAX_LINES};
 use reference::random::{self, Mix, Random, Shape};
 use reference::trace::{self, raw_record, MAX_TRACE, RECORD, TRAILER};
@@ -58,8 +58,8 @@ fn plan(random: &mut Random) -> Plan {
     }
 }
 
-/// A start, events with refused ones and ones of no bytes among them, and closings. In some lists the
-/// first start is refused, and in some no start is given.
+/// A start, events with refused ones, ones of no bytes and ones with ranges of `shared` among them, and closings. In
+/// some lists the first start is refused, and in some no start is given.
 fn calls(random: &mut Random, plan: &Plan) -> Vec<Call> {
     let mut calls = Vec::new();
     if random.chance(1, 10) {
@@ -68,7 +68,8 @@ fn calls(random: &mut Random, plan: &Plan) -> Vec<Call> {
     if random.chance(9, 10) {
         calls.push(start(random, plan.preamble, plan.shape.lines));
     }
-    let (faults, empty) = (random.pick(&[0, 1, 4]), random.pick(&[0, 1, 4]));
+    let mut of_16 = || random.pick(&[0, 1, 4]);
+    let (faults, empty, beside) = (of_16(), of_16(), of_16());
     let window = window(&plan.shape);
     for record in random::events(random, &plan.shape) {
         if random.chance(faults, 16) {
@@ -79,6 +80,9 @@ fn calls(random: &mut Random, plan: &Plan) -> Vec<Call> {
             no_bytes::put(random, &mut record, |random| {
                 no_bytes::inside(random, window)
             });
+        }
+        if random.chance(beside, 16) {
+            shared::put(random, &mut record, window, shared::beside);
         }
         calls.push(Call::Event(record));
         if random.chance(1, plan.closings) {
@@ -122,7 +126,7 @@ fn faulty(random: &mut Random, shape: &Shape) -> impl Iterator<Item = [u8; RECOR
     let kind = 1 + random.below(8) as u8;
     let mut record = good(random, shape, kind);
     let mut times = 1;
-    match random.below(9) {
+    match random.below(11) {
         0 => record[0] = random.pick(&[0, 9, 10, 128, 255]),
         1 => set_fields(random, &mut record, 1),
         2 => set_fields(random, &mut record, 4),
@@ -136,6 +140,8 @@ fn faulty(random: &mut Random, shape: &Shape) -> impl Iterator<Item = [u8; RECOR
         }
         6 => record = good(random, shape, Event::LOG),
         7 => record = good(random, shape, Event::END),
+        8 => record = ordered(random, shape, shared::sharing),
+        9 => record = ordered(random, shape, shared::past),
         _ => {
             record = good(random, shape, Event::BEGIN);
             times = 1 + random.below(12);
@@ -154,6 +160,13 @@ fn good(random: &mut Random, shape: &Shape, kind: u8) -> [u8; RECORD] {
         _ => (range(), nothing),
     };
     raw_record(kind, 0, a, b, random.bits() as u16)
+}
+
+/// An ordered with these ranges.
+fn ordered(random: &mut Random, shape: &Shape, drawn: shared::Drawn) -> [u8; RECORD] {
+    let mut record = good(random, shape, Event::ORDERED);
+    shared::put(random, &mut record, window(shape), drawn);
+    record
 }
 
 /// Sets so many fields of the ranges to values at edges.

@@ -26,6 +26,7 @@ mod plot;
 mod printing;
 mod progress;
 mod ranges;
+mod shared;
 mod workloads;
 mod writer;
 mod writing;

@@ -1,6 +1,9 @@
 //! Random events to time checkers with. They are not those of `reference`, which change with the requests: times are
-//! compared between versions, so these stay as they are.
+//! compared between versions, so these stay as they are. They changed once: 18 refuses an ordered whose ranges share a byte,
+//! so such an ordered has another B now, which every version takes. The random numbers drawn are the same, and so are all
+//! other events.
 
+use crate::shared::share;
 use reference::event::{self, MAX_DEPTH, MAX_LINES};
 use reference::random::Random;
 use reference::{Event, Range};
@@ -56,10 +59,27 @@ struct Ranges {
 impl Ranges {
     /// One of the ranges, or a new one.
     fn draw(&self, random: &mut Random) -> Range {
-        match random.chance(1, 12) {
-            true => range(random, self.longest),
-            false => random.pick(&self.ranges),
+        self.draw_with_place(random).0
+    }
+
+    /// One of the ranges and the place behind it, or a new one and the first place.
+    fn draw_with_place(&self, random: &mut Random) -> (Range, usize) {
+        if random.chance(1, 12) {
+            return (range(random, self.longest), 0);
         }
+        let place = random.below(self.ranges.len());
+        (self.ranges[place], place + 1)
+    }
+
+    /// Two ranges that share no byte. In the place of a second one that shares a byte with the first comes the next of the
+    /// list that does not.
+    fn draw_pair(&self, random: &mut Random) -> (Range, Range) {
+        let a = self.draw(random);
+        let (drawn, place) = self.draw_with_place(random);
+        let next = self.ranges.iter().cycle().skip(place).take(RANGES);
+        let mut apart = [drawn].into_iter().chain(next.copied());
+        let b = apart.find(|&b| !share(a, b));
+        (a, b.expect("not every range shares a byte with A"))
     }
 }
 
@@ -76,7 +96,10 @@ fn event(random: &mut Random, ranges: &Ranges, mix: Mix, depth: usize) -> Event 
         2 => Event::Fence,
         3 => transaction_event(random, ranges, depth),
         4 => Event::Persisted(ranges.draw(random)),
-        _ => Event::Ordered(ranges.draw(random), ranges.draw(random)),
+        _ => {
+            let (a, b) = ranges.draw_pair(random);
+            Event::Ordered(a, b)
+        }
     }
 }
 

@@ -28,7 +28,7 @@ fn range_at(record: &[u8; RECORD], at: usize) -> Range {
     Range::new(field(at), field(at + 2))
 }
 
-fn put_range(record: &mut [u8], at: usize, range: Range) {
+pub fn put_range(record: &mut [u8], at: usize, range: Range) {
     record[at..at + 2].copy_from_slice(&range.address.to_le_bytes());
     record[at + 2..at + 4].copy_from_slice(&range.length.to_le_bytes());
 }
@@ -48,7 +48,8 @@ pub fn any_in_trace(trace: &[u8]) -> bool {
     trace::open(trace).is_ok_and(|body| body.record_bytes().any(any_in))
 }
 
-fn window(body: &Body) -> usize {
+/// The bytes of the window.
+pub fn window(body: &Body) -> usize {
     usize::from(body.lines) * LINE
 }
 
@@ -242,7 +243,7 @@ pub mod tests {
     }
 
     /// The trace with each record changed for a window of so many bytes, if its trailer is good.
-    fn changed(trace: &[u8], change: impl Fn(&mut [u8; RECORD], usize)) -> Vec<u8> {
+    pub fn changed(trace: &[u8], change: impl Fn(&mut [u8; RECORD], usize)) -> Vec<u8> {
         let Ok(body) = trace::open(trace) else {
             return trace.to_vec();
         };

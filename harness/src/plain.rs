@@ -108,8 +108,8 @@ pub struct Records<'a> {
     bytes: &'a [u8],
 }
 
-/// Checks a whole trace: 1 to 5, 14; record by record 6, 7, 9, 11 and 12; 13. No trace has the 65,536 records
-/// of 10.
+/// Checks a whole trace: 1 to 5, 14; record by record 6, 7, 9, 18, 11 and 12; 13. No trace has the 65,536
+/// records of 10.
 pub fn open<'a>(trace: &'a [u8], area: &[u8]) -> Result<Records<'a>, Answer> {
     let records = open_trailer(trace).map_err(|number| refused(number, 0))?;
     if area.len() < records.bytes.len() {
@@ -181,7 +181,7 @@ fn open_trailer(trace: &[u8]) -> Result<Records<'_>, u32> {
     })
 }
 
-/// Refusals 6, 7 and 9.
+/// Refusals 6, 7, 9 and 18.
 fn check_record(record: &[u8], window: usize) -> Result<(), u32> {
     let used = match record[0] {
         3 | 4 | 6 => 0,
@@ -199,7 +199,15 @@ fn check_record(record: &[u8], window: usize) -> Result<(), u32> {
     {
         return Err(9);
     }
+    if used == 2 && share(&range_at(ranges, 0), &range_at(ranges, 4)) {
+        return Err(18);
+    }
     Ok(())
+}
+
+/// Whether a byte is in both ranges. With a range of no bytes the later start is never before the earlier end.
+fn share(a: &Range<usize>, b: &Range<usize>) -> bool {
+    a.start.max(b.start) < a.end.min(b.end)
 }
 
 /// Refusals 11 and 12.
@@ -563,7 +571,7 @@ pub mod tests {
     use super::*;
     use crate::asking::{reference_interval, some_byte};
     use crate::differential::answer_of;
-    use crate::no_bytes;
+    use crate::{no_bytes, shared};
     use reference::area_after;
     use reference::random::{any_shape, damaged, small_shape, torn_shape, valid, Random};
     use reference::trace::{assemble, raw_record, MAX_TRACE};
@@ -652,8 +660,8 @@ pub mod tests {
         assert!(differ.iter().all(|&count| count > 300), "{differ:?}");
     }
 
-    /// A trace of a small or of any shape, or with torn stores; one in three is damaged, and one in four gets ranges
-    /// of no bytes.
+    /// A trace of a small or of any shape, or with torn stores; one in three is damaged, one in four gets ranges of
+    /// no bytes, and one in eight those of `shared`.
     pub fn random_trace(random: &mut Random) -> Vec<u8> {
         let shape = match random.below(3) {
             0 => small_shape(random),
@@ -666,6 +674,9 @@ pub mod tests {
         };
         if random.chance(1, 4) {
             no_bytes::put_some(random, &mut trace);
+        }
+        if random.chance(1, 8) {
+            shared::put_some(random, &mut trace);
         }
         trace
     }
@@ -794,6 +805,72 @@ pub mod tests {
         expect(&alone(Read::LOG, [65, 0, 0, 0]), Err(refused(9, 1)));
         expect(&alone(Read::STORE, [65, 0, 1, 0]), Err(refused(7, 1)));
         expect(&alone(9, [65, 0, 0, 0]), Err(refused(6, 1)));
+    }
+
+    /// A trace of a fence and an ordered, in a window of two lines.
+    fn ordered(fields: [u16; 4]) -> Vec<u8> {
+        trace_of(2, &[(Read::FENCE, [0; 4]), (Read::ORDERED, fields)])
+    }
+
+    #[test]
+    fn ranges_that_share_a_byte_are_refused() {
+        for fields in [
+            [0, 8, 0, 8],
+            [0, 8, 2, 3],
+            [2, 3, 0, 8],
+            [0, 8, 7, 8],
+            [7, 8, 0, 8],
+            [120, 8, 127, 1],
+            [0, 128, 0, 128],
+        ] {
+            expect(&ordered(fields), Err(refused(18, 2)));
+        }
+        for fields in [
+            [0, 8, 8, 8],
+            [8, 8, 0, 8],
+            [0, 64, 64, 64],
+            [0, 8, 4, 0],
+            [4, 0, 0, 8],
+            [0, 0, 0, 8],
+            [0, 8, 8, 0],
+            [4, 0, 4, 0],
+        ] {
+            expect(&ordered(fields), Ok(vec![NONE, HOLDS]));
+        }
+    }
+
+    #[test]
+    fn a_shared_byte_is_refused_after_9_and_at_its_record() {
+        for fields in [
+            [0, 129, 0, 8],
+            [0, 8, 0, 129],
+            [121, 8, 121, 8],
+            [8, u16::MAX, 0, 16],
+        ] {
+            expect(&ordered(fields), Err(refused(9, 2)));
+        }
+        let shared = (Read::ORDERED, [0, 8, 0, 8]);
+        let end = (Read::END, [0; 4]);
+        expect(&trace_of(2, &[shared, end]), Err(refused(18, 1)));
+        expect(&trace_of(2, &[end, shared]), Err(refused(11, 1)));
+        let begin = (Read::BEGIN, [0; 4]);
+        expect(&trace_of(2, &[begin, shared]), Err(refused(18, 2)));
+        let mut zero_set = trace_of(2, &[shared]);
+        zero_set[1] = 1;
+        expect(&zero_set, Err(refused(7, 1)));
+    }
+
+    #[test]
+    fn exposures_and_intervals_are_refused_by_18_too() {
+        let trace = ordered([0, 8, 7, 8]);
+        let mut answer = [u32::MAX; 5];
+        exposure(&trace, &mut answer);
+        assert_eq!(answer, [18, 2, 0, 0, 0]);
+        for byte in [0, 128] {
+            let mut answer = [u32::MAX; COUNT];
+            interval(&trace, byte, &mut answer);
+            assert_eq!(answer, [18, 2, 0, 0, 0, 0, 0, 0, 0, 0, 0]);
+        }
     }
 
     /// Compares answer and area; whether the trace was accepted.

@@ -330,9 +330,9 @@ mod tests {
             compare(&random_trace(&mut random), &mut counts);
         }
         let seen = Counts {
-            ordered: 61_403,
-            differ: 15_080,
-            hold: 9_306,
+            ordered: 58_780,
+            differ: 8_380,
+            hold: 6_703,
         };
         assert_eq!(counts, seen);
     }

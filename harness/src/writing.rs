@@ -1,10 +1,10 @@
 //! `differential`: a writer compared with the unrelated one on random lists of calls.
 
 use crate::differential::{
-    add_each, answer_of, bytes, counted, first_different, random_for, spread, TRACES,
+    add_each, answer_of, bytes, counted, first_different, random_for, spread, Answers, TRACES,
 };
 use crate::writer::Call;
-use crate::{judge, lists, no_bytes};
+use crate::{judge, lists, no_bytes, shared};
 use reference::outcome::findings_bytes;
 use reference::random::Random;
 use reference::trace::{self, MAX_TRACE, RECORD};
@@ -178,7 +178,7 @@ impl Written {
 /// The kinds of call, with the answers that each can have.
 const ANSWERS: [(&str, &[usize]); 3] = [
     ("start", &[0, 4, 2, 15]),
-    ("event", &[0, 2, 6, 7, 9, 11, 12, 15]),
+    ("event", &[0, 2, 6, 7, 9, 18, 11, 12, 15]),
     ("closing", &[0, 13, 15]),
 ];
 
@@ -194,10 +194,11 @@ fn kind_of(call: &Call) -> usize {
 #[derive(Clone, Default)]
 struct Counts {
     lists: u64,
-    /// By the kind of call: accepted at 0, refused by a number at that number.
-    answers: [[u64; 16]; 3],
+    /// By the kind of call.
+    answers: [Answers; 3],
     /// Events with a range of no bytes accepted, and events without another range refused by 9.
     no_bytes: [u64; 2],
+    shared: shared::Counts,
     /// Calls accepted of a writer that no start handed over.
     any_numbers: u64,
     /// Events that took a trailer's place.
@@ -213,6 +214,7 @@ impl Counts {
         if let Call::Event(record) = call {
             self.no_bytes[0] += u64::from(number == 0 && no_bytes::any_in(record));
             self.no_bytes[1] += u64::from(number == 9 && no_bytes::all_in(record));
+            self.shared.add(record, number);
         }
     }
 
@@ -228,9 +230,13 @@ impl Counts {
             }));
         }
         let [taken, refused] = self.no_bytes;
-        let rest = [
+        let no_bytes = [
             ("events accepted with a range of no bytes", taken),
             ("events refused by 9 for a range of no bytes", refused),
+        ];
+        named.extend(no_bytes.map(|(name, count)| (name.to_string(), count)));
+        named.extend(self.shared.named());
+        let rest = [
             (
                 "calls accepted of a writer of any numbers",
                 self.any_numbers,
@@ -251,6 +257,7 @@ impl AddAssign for Counts {
             add_each(answers, others);
         }
         add_each(&mut self.no_bytes, &other.no_bytes);
+        self.shared += other.shared;
         self.any_numbers += other.any_numbers;
         self.reopened += other.reopened;
         self.files += other.files;
@@ -423,6 +430,9 @@ pub fn command(writer: &Writer, lists: u64, seed: u64) -> Result<String, String>
 mod tests {
     use super::*;
     use crate::no_bytes::tests::{back_to_size, beyond_size, hide, replace_in, Replace};
+    use crate::shared::tests::{
+        refuse_before_9, refuse_empty_inside, refuse_touching, take_last_byte, take_shared,
+    };
     use crate::writer::call as right_call;
     use reference::event::LINE;
     use reference::trace::TRAILER;
@@ -434,7 +444,7 @@ mod tests {
     };
 
     /// Writers that do something wrong.
-    const WRONG: [Writer; 19] = [
+    const WRONG: [Writer; 27] = [
         wrong(
             "puts an event behind the trailer",
             |call, area, writer, answer| {
@@ -581,11 +591,8 @@ mod tests {
         wrong(
             "takes no bytes beyond the window's size",
             |call, area, writer, answer| {
-                let end = end_of(writer);
-                right_call(&replaced(call, writer, back_to_size), area, writer, answer);
-                if let (Call::Event(record), [0, _]) = (call, *answer) {
-                    area[end..end + RECORD].copy_from_slice(record);
-                }
+                let other = replaced(call, writer, back_to_size);
+                call_as(&other, call, area, writer, answer);
             },
         ),
         wrong(
@@ -609,15 +616,100 @@ mod tests {
                 _ => right_call(call, area, writer, answer),
             },
         ),
+        wrong(
+            "takes ranges that share a byte",
+            |call, area, writer, answer| {
+                let other = changed(call, writer, take_shared);
+                call_as(&other, call, area, writer, answer);
+            },
+        ),
+        wrong(
+            "takes ranges that share a last byte",
+            |call, area, writer, answer| {
+                let other = changed(call, writer, take_last_byte);
+                call_as(&other, call, area, writer, answer);
+            },
+        ),
+        wrong(
+            "refuses ranges that touch by 18",
+            |call, area, writer, answer| {
+                let other = changed(call, writer, refuse_touching);
+                right_call(&other, area, writer, answer);
+            },
+        ),
+        wrong(
+            "refuses no bytes inside by 18",
+            |call, area, writer, answer| {
+                let other = changed(call, writer, refuse_empty_inside);
+                right_call(&other, area, writer, answer);
+            },
+        ),
+        wrong("gives 18 before 9", |call, area, writer, answer| {
+            let other = changed(call, writer, refuse_before_9);
+            right_call(&other, area, writer, answer);
+        }),
+        wrong("gives 18 before 2", |call, area, writer, answer| {
+            let refused = shares(call, writer);
+            right_call(call, area, writer, answer);
+            if refused && answer[0] == 2 {
+                answer[0] = 18;
+            }
+        }),
+        wrong("gives 15 before 18", |call, area, writer, answer| {
+            let short = area.len() < end_of(writer) + RECORD;
+            right_call(call, area, writer, answer);
+            if short && answer[0] == 18 {
+                answer[0] = 15;
+            }
+        }),
+        wrong(
+            "counts an event refused by 18",
+            |call, area, writer, answer| {
+                right_call(call, area, writer, answer);
+                writer[2] += u32::from(answer[0] == 18);
+            },
+        ),
     ];
 
-    /// The call with the ranges of no bytes of its record replaced, in the writer's window.
-    fn replaced(call: &Call, writer: &[u32; 4], replace: Replace) -> Call {
-        let mut replaced = call.clone();
-        if let Call::Event(record) = &mut replaced {
-            replace_in(record, LINE * usize::from(writer[0] as u16), replace);
+    /// The call with its record changed for the writer's window.
+    fn changed(call: &Call, writer: &[u32; 4], change: impl Fn(&mut [u8; RECORD], usize)) -> Call {
+        let mut changed = call.clone();
+        if let Call::Event(record) = &mut changed {
+            change(record, window(writer));
         }
-        replaced
+        changed
+    }
+
+    /// The call with the ranges of no bytes of its record replaced.
+    fn replaced(call: &Call, writer: &[u32; 4], replace: Replace) -> Call {
+        changed(call, writer, |record, window| {
+            replace_in(record, window, replace)
+        })
+    }
+
+    /// Makes another call; if it is accepted, the record written is the one of the call itself.
+    fn call_as(
+        other: &Call,
+        call: &Call,
+        area: &mut [u8],
+        writer: &mut [u32; 4],
+        answer: &mut [u32; 2],
+    ) {
+        let end = end_of(writer);
+        right_call(other, area, writer, answer);
+        if let (Call::Event(record), [0, _]) = (call, *answer) {
+            area[end..end + RECORD].copy_from_slice(record);
+        }
+    }
+
+    /// Whether it is an event that 18 refuses if no number comes before it.
+    fn shares(call: &Call, writer: &[u32; 4]) -> bool {
+        matches!(call, Call::Event(record) if shared::refused_by_18(record, window(writer)))
+    }
+
+    /// The bytes of the writer's window.
+    fn window(writer: &[u32; 4]) -> usize {
+        LINE * usize::from(writer[0] as u16)
     }
 
     const fn wrong(name: &'static str, call: MakeCall) -> Writer {

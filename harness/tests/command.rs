@@ -50,7 +50,9 @@ fn small_runs_print_the_same_counts_each_time() {
             "differential",
             [
                 "traces 500\n",
+                "\nrefused by 18 ",
                 "\nstores of no bytes ",
+                "\nordered accepted whose ranges touch at an edge ",
                 "\ntraces to the exposure 525\n",
                 "\nexposures compared with reference: proved, plain\nseed 7\ndiffer 0\n",
                 "\nbytes asked ",
@@ -65,6 +67,8 @@ fn small_runs_print_the_same_counts_each_time() {
             [
                 "strings 500\n",
                 "\nbytes ",
+                "\nrefused by 18 ",
+                "\nexposure refused by 18 ",
                 "\naccepted strings with a range of no bytes ",
                 "\nstrings to the exposure 500\n",
                 "\nexposure proved\nseed 7\nbad 0\n",

@@ -266,7 +266,11 @@ impl Way for Run {
 }
 
 impl Run {
+    /// Refusals 18 and 10 to 12, in this order.
     fn refuse(&self, event: Event) -> Result<(), u8> {
+        if matches!(event, Event::Ordered(a, b) if share_a_byte(a, b)) {
+            return Err(18);
+        }
         if self.events == MAX_EVENTS {
             return Err(10);
         }
@@ -437,6 +441,11 @@ impl Run {
                 .map(|byte| number * LINE + byte)
         })
     }
+}
+
+/// Whether both ranges have some byte: the later start is before the earlier end.
+fn share_a_byte(a: Range, b: Range) -> bool {
+    usize::from(a.address.max(b.address)) < a.end().min(b.end())
 }
 
 /// The bytes of a line that a range covers, counted from the line's start.

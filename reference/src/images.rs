@@ -120,6 +120,9 @@ impl Way for History {
     }
 
     fn give(&mut self, record: &Record) -> Result<Finding, u8> {
+        if has_a_byte_in_both(record.event) {
+            return Err(18);
+        }
         let number = self.records.len() + 1;
         if number > MAX_EVENTS {
             return Err(10);
@@ -767,6 +770,11 @@ fn mark_partners(rows: &mut [Vec<Places>], list: usize, lost: Places, mut kept: 
     }
 }
 
+/// A byte of A is one of B too.
+fn has_a_byte_in_both(event: Event) -> bool {
+    matches!(event, Event::Ordered(a, b) if a.bytes().any(|byte| b.covers(byte)))
+}
+
 fn is_fence(event: Event) -> bool {
     event == Event::Fence
 }
@@ -791,8 +799,8 @@ const FEW_IMAGES: u64 = 600_000;
 /// Whether enumerating the images of the trace takes a fraction of a second: at most
 /// [`SMALL_RECORDS`] records, and at most [`SMALL_EFFORT`] bytes looked at. In each image these are
 /// the bytes with a last store that it is listed for: of a persisted, at an end of the window, and
-/// of both ranges of an ordered, as far as they are on the image's lines. A trace refused by its
-/// trailer is small.
+/// of both ranges of an ordered, as far as they are on the image's lines. Records from one refused by
+/// 6, 7, 9 or 18 on are not judged. A trace refused by its trailer is small.
 pub fn small_enough(bytes: &[u8]) -> bool {
     let Ok(body) = trace::open(bytes) else {
         return true;
@@ -801,11 +809,13 @@ pub fn small_enough(bytes: &[u8]) -> bool {
         return false;
     }
     let decoded = body.record_bytes().map(|b| trace::decode(b, body.lines));
-    let records: Vec<Record> = decoded.map_while(Result::ok).collect();
+    let good = decoded.map_while(Result::ok);
+    let judged = good.take_while(|record| !has_a_byte_in_both(record.event));
+    let records: Vec<Record> = judged.collect();
     small_enough_events(body.lines, &records)
 }
 
-/// The same for a list of events whose ranges are good.
+/// The same for a list of events whose ranges are in the window.
 pub fn small_enough_events(lines: u16, records: &[Record]) -> bool {
     if records.len() > SMALL_RECORDS {
         return false;
@@ -1162,6 +1172,28 @@ mod tests {
             } = history.exposure().expect("bytes are closed");
             assert_eq!([quotient, remainder, divisor], expected);
         }
+    }
+
+    /// 18 comes before 10. A list of 65,535 events, not given one by one.
+    #[test]
+    fn refusals_behind_the_last_event() {
+        let of = |event| Record { event, site: 0 };
+        let mut history = History {
+            lines: 1,
+            records: vec![of(Event::Fence); MAX_EVENTS],
+            findings: Vec::new(),
+        };
+        let a = Range::new(0, 8);
+        for (b, number) in [
+            (Range::new(0, 8), 18),
+            (Range::new(7, 1), 18),
+            (Range::new(8, 8), 10),
+            (Range::new(4, 0), 10),
+        ] {
+            assert_eq!(history.give(&of(Event::Ordered(a, b))), Err(number));
+            assert_eq!(history.give(&of(Event::Ordered(b, a))), Err(number));
+        }
+        assert_eq!(history.records.len(), MAX_EVENTS);
     }
 
     /// The images of all lines concerned at once break the same pairs as those of one or two lines.

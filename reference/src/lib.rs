@@ -17,7 +17,8 @@
 //! such pages, and module [`page_calls`] makes a file of calls of the pages and the text of their
 //! answers.
 //!
-//! Module [`no_bytes`] counts the events with a range of no bytes, and judges a list without them.
+//! Module [`no_bytes`] counts the events with a range of no bytes, and judges a list without them;
+//! module [`orders`] counts the ordered assertions by how their ranges lie to each other.
 
 pub mod calls;
 pub mod check;
@@ -29,6 +30,7 @@ pub mod finding;
 pub mod images;
 pub mod interval;
 pub mod no_bytes;
+pub mod orders;
 pub mod outcome;
 pub mod page_calls;
 pub mod pages;
@@ -53,7 +55,8 @@ pub trait Way {
     /// The number of bytes in the window.
     fn window(&self) -> usize;
 
-    /// Takes an event whose ranges are good. Refusals 10 to 12; a refused event changes nothing.
+    /// Takes an event whose ranges are in the window. Refusals 18 and 10 to 12, in this order; a
+    /// refused event changes nothing.
     fn give(&mut self, record: &Record) -> Result<Finding, u8>;
 
     /// The persist interval of a byte of the window.
@@ -156,7 +159,8 @@ struct Whole<W> {
 }
 
 impl<W: Way> Whole<W> {
-    /// Gives the records of a trace to a fresh run, and closes it. Refusals 6, 7 and 9 to 13.
+    /// Gives the records of a trace to a fresh run, and closes it. Refusals 6, 7, 9, 18 and 10 to 12,
+    /// in this order for each record, and then 13.
     fn of(body: &trace::Body) -> Result<Whole<W>, Refusal> {
         let mut way = W::fresh(body.lines);
         let mut findings = Vec::with_capacity(body.count());

@@ -108,7 +108,7 @@ impl<W: Way> Beside<W> {
         self.taken_out
     }
 
-    /// Gives an event whose ranges are good. An event with a range of no bytes has to get `holds` if
+    /// Gives an event whose ranges are in the window. An event with a range of no bytes has to get `holds` if
     /// it is an assertion and nothing otherwise, or 11 if it is a log and nothing is open. Any other
     /// one has to get the same answer from both runs, but for the event numbers.
     pub fn give(&mut self, record: &Record) -> Result<Finding, u8> {

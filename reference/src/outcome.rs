@@ -5,7 +5,7 @@ use crate::trace::RECORD;
 use std::fmt::Write;
 
 /// The numbers of the refusals that a trace can get. 8 is no longer given.
-pub const OF_TRACES: [u8; 13] = [1, 2, 3, 4, 5, 6, 7, 9, 10, 11, 12, 13, 14];
+pub const OF_TRACES: [u8; 14] = [1, 2, 3, 4, 5, 6, 7, 9, 10, 11, 12, 13, 14, 18];
 
 /// A refusal: its number, and the record's number from 1 (0 for trailer, area, closing, and the
 /// calls on single events).

@@ -1,6 +1,7 @@
 //! Seeded random traces, valid and damaged.
 
 use crate::event::{Event, Range, Record, LINE, MAX_DEPTH, MAX_LINES, WORD};
+use crate::orders;
 use crate::trace::{self, RECORD, TRAILER};
 
 /// A generator of 64-bit numbers (SplitMix64): the same seed gives the same numbers.
@@ -162,12 +163,59 @@ fn event(
         2 => Event::Fence,
         3 => transaction_event(random, shape, pool, depth),
         4 => Event::Persisted(pooled(random, shape, pool)),
-        5 => Event::Ordered(pooled(random, shape, pool), pooled(random, shape, pool)),
+        5 => order(random, shape, |random| pooled(random, shape, pool)),
         _ => {
             let whole = stored(random, before).unwrap_or_else(|| range(random, shape));
-            Event::Ordered(part(random, shape, whole), part(random, shape, whole))
+            order(random, shape, |random| part(random, shape, whole))
         }
     }
+}
+
+/// An ordered assertion between two of these ranges that share no byte. Where two share one, B is
+/// drawn again, or both are cut.
+fn order(random: &mut Random, shape: &Shape, draw: impl Fn(&mut Random) -> Range) -> Event {
+    let (a, mut b) = (draw(random), draw(random));
+    while orders::share_a_byte(a, b) {
+        if random.chance(1, 3) {
+            let (a, b) = apart(random, shape, a, b);
+            return Event::Ordered(a, b);
+        }
+        b = draw(random);
+    }
+    Event::Ordered(a, b)
+}
+
+/// Two ranges that share a byte, cut so that they touch at an edge and share none. If they are the
+/// same byte, the one beside it takes B's place.
+fn apart(random: &mut Random, shape: &Shape, a: Range, b: Range) -> (Range, Range) {
+    let a_first = cut(random, a, b);
+    let b_first = cut(random, b, a).map(|(b, a)| (a, b));
+    let cuts: Vec<(Range, Range)> = [a_first, b_first].into_iter().flatten().collect();
+    if cuts.is_empty() {
+        return (a, beside(random, shape, a.address));
+    }
+    random.pick(&cuts)
+}
+
+/// The bytes of one range below an address, and those of the other from it on; `None` if one of them
+/// would have none.
+fn cut(random: &mut Random, low: Range, high: Range) -> Option<(Range, Range)> {
+    let first = high.bytes().start.max(low.bytes().start + 1);
+    let last = low.end().min(high.end() - 1);
+    if first > last {
+        return None;
+    }
+    let at = first + random.below(last - first + 1);
+    let below = Range::new(low.address, at as u16 - low.address);
+    let from = Range::new(at as u16, (high.end() - at) as u16);
+    Some((below, from))
+}
+
+/// A byte of the window beside this one.
+fn beside(random: &mut Random, shape: &Shape, byte: u16) -> Range {
+    let last = shape.lines * LINE as u16 - 1;
+    let below = byte == last || byte > 0 && random.chance(1, 2);
+    Range::new(if below { byte - 1 } else { byte + 1 }, 1)
 }
 
 /// One of the latest stores of some byte, if there is one.
@@ -229,7 +277,7 @@ fn without_bytes(random: &mut Random, range: Range) -> Range {
         range.length,
         random.below(usize::from(range.length) + 1) as u16,
     ];
-    Range::new(range.address + random.pick(&edges), 0)
+    Range::new(range.address.saturating_add(random.pick(&edges)), 0)
 }
 
 /// No byte, at an address up to the window's size; often at the edge of a line.
@@ -284,13 +332,14 @@ pub fn damaged(random: &mut Random, shape: &Shape) -> Vec<u8> {
 }
 
 fn damage(random: &mut Random, trace: &mut Vec<u8>) {
-    match random.below(12) {
+    match random.below(14) {
         0 => flip_bit(random, trace),
-        1 => cut(random, trace),
+        1 => shorten(random, trace),
         2 => extend(random, trace),
         3 => edge_of_trailer(random, trace),
         4 => exchange_records(random, trace),
         5 => begin_many(random, trace),
+        6 | 7 => order_near_itself(random, trace),
         _ => edge_of_record(random, trace),
     }
 }
@@ -303,7 +352,7 @@ fn flip_bit(random: &mut Random, trace: &mut [u8]) {
 }
 
 /// Takes bytes away, at the start, inside or at the end.
-fn cut(random: &mut Random, trace: &mut Vec<u8>) {
+fn shorten(random: &mut Random, trace: &mut Vec<u8>) {
     if trace.is_empty() {
         return;
     }
@@ -408,6 +457,46 @@ fn edge_of_record(random: &mut Random, trace: &mut [u8]) {
             trace[at..at + 2].copy_from_slice(&value);
         }
     }
+}
+
+/// Gives an ordered record a range B at the edges of A or inside it; most share a byte with A.
+pub fn order_near_itself(random: &mut Random, trace: &mut [u8]) {
+    let mut starts = record_starts(trace);
+    starts.retain(|&start| trace[start] == Event::ORDERED);
+    if starts.is_empty() {
+        return;
+    }
+    let start = random.pick(&starts);
+    let field = |at: usize| u16::from_le_bytes([trace[start + at], trace[start + at + 1]]);
+    let b = near(random, Range::new(field(2), field(4)));
+    trace[start + 6..start + 8].copy_from_slice(&b.address.to_le_bytes());
+    trace[start + 8..start + 10].copy_from_slice(&b.length.to_le_bytes());
+}
+
+/// A range at the edges of this one or inside it: the same, a part, one over an edge or around it,
+/// one that touches it, or no byte. It may run past the window.
+pub fn near(random: &mut Random, range: Range) -> Range {
+    let Range { address, length } = range;
+    let end = range.end().min(usize::from(u16::MAX)) as u16;
+    let more = 1 + random.below(WORD) as u16;
+    let skipped = random.below(usize::from(length).max(1)) as u16;
+    let left = usize::from(length - skipped).max(1);
+    let part = Range::new(
+        address.saturating_add(skipped),
+        1 + random.below(left) as u16,
+    );
+    let first = Range::new(address.saturating_sub(more), more + 1);
+    let last = Range::new(end.saturating_sub(1), more);
+    let around = Range::new(
+        address.saturating_sub(more),
+        length.saturating_add(2 * more),
+    );
+    let before = Range::new(address.saturating_sub(more), more.min(address));
+    let behind = Range::new(end, more);
+    let empty = without_bytes(random, range);
+    random.pick(&[
+        range, range, part, part, first, last, around, before, behind, empty,
+    ])
 }
 
 /// A shape for small windows, whose images are few.

@@ -17,7 +17,7 @@ pub fn fresh<W: Way>(lines: u16) -> (W, Result<(), Refusal>) {
     }
 }
 
-/// Gives an event. Refusals 9 to 12, in this order; a refused event changes nothing.
+/// Gives an event. Refusals 9, 18 and 10 to 12, in this order; a refused event changes nothing.
 pub fn give<W: Way>(run: &mut W, record: &Record) -> Result<Finding, Refusal> {
     let good = record.event.check_ranges(run.window());
     good.and_then(|()| run.give(record)).map_err(refusal)

@@ -1,4 +1,4 @@
-//! The trace file: its trailer, its records, and the refusals that the bytes alone decide.
+//! The trace file: its trailer, its records, and refusals 1 to 7 and 9.
 
 use crate::event::{Event, Range, Record, LINE, MAX_LINES};
 

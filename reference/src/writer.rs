@@ -4,7 +4,7 @@
 //! A call lays down its preamble, record or trailer whole, or is refused and writes nothing. No
 //! other byte of the area changes.
 
-use crate::event::{Event, MAX_DEPTH, MAX_EVENTS, MAX_LINES};
+use crate::event::{Event, Range, MAX_DEPTH, MAX_EVENTS, MAX_LINES};
 use crate::trace::{self, MARK, MAX_TRACE, RECORD, TRAILER};
 
 /// A file that is being written. Any numbers are allowed, those that no start hands over too.
@@ -38,7 +38,7 @@ pub fn start(area: &mut [u8], preamble: &[u8], lines: u16) -> Result<Writer, u8>
     Ok(writer)
 }
 
-/// Gives the event of a record's bytes. Refusals 2, 6, 7, 9 to 12 and 15, in this order.
+/// Gives the event of a record's bytes. Refusals 2, 6, 7, 9, 18, 10 to 12 and 15, in this order.
 pub fn event(area: &mut [u8], writer: &mut Writer, record: &[u8; RECORD]) -> Result<(), u8> {
     if writer.length(u64::from(writer.count) + 1) > MAX_TRACE as u64 {
         return Err(2);
@@ -72,9 +72,13 @@ impl Writer {
         self.length(u64::from(self.count)) - TRAILER as u64
     }
 
-    /// The transactions open after the event of a record. Refusals 6, 7 and 9 to 12, in this order.
+    /// The transactions open after the event of a record. Refusals 6, 7, 9, 18 and 10 to 12, in this
+    /// order.
     fn open_after(&self, record: &[u8; RECORD]) -> Result<u16, u8> {
         let record = trace::decode(record, self.lines)?;
+        if matches!(record.event, Event::Ordered(a, b) if overlap(a, b)) {
+            return Err(18);
+        }
         // So many records are past the longest file: an event gets 2 before.
         if self.count as usize >= MAX_EVENTS {
             return Err(10);
@@ -87,6 +91,16 @@ impl Writer {
             _ => Ok(self.open),
         }
     }
+}
+
+/// The range that starts first runs into the other one, which has bytes.
+fn overlap(a: Range, b: Range) -> bool {
+    let (first, second) = if a.address <= b.address {
+        (a, b)
+    } else {
+        (b, a)
+    };
+    second.has_bytes() && first.end() > usize::from(second.address)
 }
 
 /// Lays bytes down at a place of the area, and gives the place behind them. Refusal 15.

@@ -106,6 +106,35 @@ fn check() {
     assert!(error.starts_with(&format!("{bad}:2: ")), "{error}");
 }
 
+/// Of a trace with an order between ranges that share a byte, and of the findings that an earlier
+/// version left for it.
+#[test]
+fn shared_bytes() {
+    let script = "lines 2\nstore 0/8 site 10\nordered 0/8 before 0/8 site 11\n";
+    let trace = run(&["write", "-"], script.as_bytes()).stdout;
+    for args in [
+        &["judge", "-"][..],
+        &["judge", "--images", "-"],
+        &["findings", "-"],
+        &["exposure", "-"],
+        &["exposure", "--images", "-"],
+        &["interval", "0", "-"],
+        &["interval", "--images", "128", "-"],
+    ] {
+        let output = run(args, &trace);
+        assert_eq!(text(&output.stdout), "refused 18 at 2\n", "{args:?}");
+        assert_eq!(output.status.code(), Some(0));
+    }
+    let none = [0, 0, 0, 0, 0, 0, 0, 0, 0, 0, 10, 0];
+    let holds = [1, 0, 0, 0, 0, 0, 0, 0, 0, 0, 11, 0];
+    let output = run(&["pages", "-"], &[none, holds].concat());
+    let row = "     2         11  holds               0      0      0      0\n";
+    assert_eq!(text(&output.stdout).split_inclusive('\n').nth(1), Some(row));
+    let expected = format!("{script}refused 18 at 2\n");
+    let output = run(&["check", "-"], expected.as_bytes());
+    assert_eq!(output.status.code(), Some(0));
+}
+
 #[test]
 fn corpus() {
     let folder = folder("corpus");

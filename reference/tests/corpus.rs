@@ -4,8 +4,9 @@
 use reference::corpus::{papers_folder, Corpus};
 use reference::direct::Run;
 use reference::no_bytes::{self, Beside};
+use reference::orders;
 use reference::trace::{open, read, TRAILER};
-use reference::{Kind, Outcome, Record};
+use reference::{Event, Kind, Outcome, Record};
 use std::path::Path;
 
 fn build() -> Corpus {
@@ -34,11 +35,11 @@ fn stored_corpus_is_the_same() {
 fn covers_every_answer() {
     let corpus = build();
     assert!(corpus.entries.len() >= 500);
-    assert!(corpus.to_bytes().len() <= 1_500_000);
+    assert!(corpus.to_bytes().len() <= 1_600_000);
     let both = corpus.entries.iter().filter(|entry| entry.both_ways);
     assert!(both.count() >= 500);
     let outcomes = || corpus.entries.iter().map(|entry| &entry.outcome);
-    for number in [1, 2, 3, 4, 5, 6, 7, 9, 11, 12, 13, 14] {
+    for number in [1, 2, 3, 4, 5, 6, 7, 9, 11, 12, 13, 14, 18] {
         let refused = outcomes().filter_map(Outcome::refusal);
         let count = refused.filter(|refusal| refusal.number == number).count();
         assert!(count >= 3, "refused by {number}: {count}");
@@ -82,6 +83,38 @@ fn covers_ranges_of_no_bytes() {
     }
     println!("{compared} traces with ranges of no bytes: {accepted}; refused by 9: {past}");
     assert!(accepted.least() >= 50 && past.least() >= 5);
+}
+
+/// Orders between ranges that touch, or of which one has no byte inside the other, are accepted; every
+/// order that 18 refuses has ranges that share a byte, and none of those accepted has.
+#[test]
+fn covers_shared_bytes() {
+    let corpus = build();
+    let (mut accepted, mut refused) = (orders::Counts::default(), orders::Counts::default());
+    let mut past = orders::Counts::default();
+    for entry in &corpus.entries {
+        let Ok(body) = open(&entry.case.trace) else {
+            continue;
+        };
+        let event = |bytes| read(bytes).map(|record| record.event).ok();
+        let events: Vec<Option<Event>> = body.record_bytes().map(event).collect();
+        match &entry.outcome {
+            Outcome::Accepted(_) => orders::count(&mut accepted, events.into_iter().flatten()),
+            Outcome::Refused(refusal) => {
+                let counts = match refusal.number {
+                    9 => &mut past,
+                    18 => &mut refused,
+                    _ => continue,
+                };
+                orders::count(counts, events[refusal.record - 1]);
+            }
+        }
+    }
+    println!("orders accepted, refused by 18 and by 9: {accepted:?}, {refused:?}, {past:?}");
+    assert_eq!(accepted[orders::SHARE], 0);
+    assert!(accepted[1..].iter().all(|&count| count > 100));
+    assert!(refused[orders::SHARE] > 100 && past[orders::SHARE] > 10);
+    assert_eq!(refused[1..], [0; 3]);
 }
 
 fn compare_without(lines: u16, records: &[Record]) {
@@ -167,13 +200,16 @@ fn summary_adds_up() {
         })
         .collect();
     // 8 has no line.
-    assert_eq!(numbers.len(), 2 + 13 + 9 + 1);
+    assert_eq!(numbers.len(), 2 + 14 + 9 + 1);
     assert_eq!(
         numbers[0],
-        numbers[1] + numbers[2..15].iter().sum::<usize>()
+        numbers[1] + numbers[2..16].iter().sum::<usize>()
     );
     assert_eq!(numbers[10], 0, "refused by 10");
     assert!(summary.contains("\nrefused by 7 ") && summary.contains("\nrefused by 9 "));
     assert!(summary.contains("\nrefused by 10 0\n") && !summary.contains("refused by 8"));
     assert!(summary.starts_with("traces ") && summary.ends_with("\ndiffer 0\n"));
+    let lines: Vec<&str> = summary.lines().collect();
+    assert!(lines[14].starts_with("refused by 14 ") && lines[15].starts_with("refused by 18 "));
+    assert!(lines[16].starts_with("none "));
 }

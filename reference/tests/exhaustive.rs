@@ -4,6 +4,7 @@
 use reference::direct::Run;
 use reference::images::History;
 use reference::no_bytes::{self, Beside};
+use reference::orders;
 use reference::{findings_with, judge, judge_by_images, script, trace, Event, Exposure, Finding};
 use reference::{Epochs, Interval, Kind, Outcome, Range, Record, Way};
 use std::ops::RangeInclusive;
@@ -30,7 +31,7 @@ const EVERYTHING: [Event; 16] = [
     Event::Persisted(r(56, 16)),
     Event::Persisted(r(58, 4)),
     Event::Ordered(r(56, 8), r(64, 6)),
-    Event::Ordered(r(58, 8), r(56, 12)),
+    Event::Ordered(r(58, 8), r(66, 4)),
     Event::Ordered(r(60, 4), r(56, 4)),
     Event::Ordered(r(64, 6), r(58, 4)),
     Event::Begin,
@@ -47,8 +48,8 @@ const ASSERTIONS: [Event; 9] = [
     Event::WriteBack(r(64, 1)),
     Event::Fence,
     Event::Persisted(r(62, 5)),
-    Event::Ordered(r(62, 3), r(63, 4)),
-    Event::Ordered(r(64, 3), r(62, 3)),
+    Event::Ordered(r(62, 2), r(64, 3)),
+    Event::Ordered(r(64, 3), r(62, 2)),
 ];
 
 /// Nested transactions and logs.
@@ -75,10 +76,10 @@ const TORN: [Event; 13] = [
     Event::Fence,
     Event::Persisted(r(40, 36)),
     Event::Ordered(r(40, 8), r(48, 8)),
-    Event::Ordered(r(48, 8), r(42, 8)),
-    Event::Ordered(r(56, 20), r(48, 16)),
+    Event::Ordered(r(48, 8), r(42, 6)),
+    Event::Ordered(r(56, 20), r(48, 8)),
     Event::Ordered(r(48, 4), r(52, 4)),
-    Event::Ordered(r(44, 24), r(64, 12)),
+    Event::Ordered(r(44, 20), r(64, 12)),
 ];
 
 /// Three words whole, three in part, and two across the lines, for longer histories.
@@ -88,9 +89,9 @@ const WORDS: [Event; 8] = [
     Event::Store(r(60, 16)),
     Event::WriteBack(r(60, 8)),
     Event::Fence,
-    Event::Ordered(r(60, 28), r(60, 28)),
+    Event::Ordered(r(60, 16), r(76, 12)),
     Event::Ordered(r(64, 8), r(72, 16)),
-    Event::Ordered(r(80, 8), r(64, 24)),
+    Event::Ordered(r(80, 8), r(64, 16)),
 ];
 
 /// The events that persist intervals depend on.
@@ -154,7 +155,7 @@ const EMPTY_WORDS: [Event; 9] = [
     Event::WriteBack(r(60, 8)),
     Event::WriteBack(r(64, 0)),
     Event::Fence,
-    Event::Ordered(r(60, 20), r(60, 20)),
+    Event::Ordered(r(60, 8), r(68, 12)),
     Event::Ordered(r(72, 0), r(60, 20)),
     Event::Ordered(r(64, 8), r(72, 8)),
 ];
@@ -171,13 +172,30 @@ const EMPTY_INTERVALS: [Event; 8] = [
     Event::Fence,
 ];
 
+/// Orders between ranges that share a byte, that touch, and of which one has no byte inside the other.
+const SHARED: [Event; 13] = [
+    Event::Store(r(60, 8)),
+    Event::Store(r(64, 4)),
+    Event::WriteBack(r(60, 8)),
+    Event::Fence,
+    Event::Begin,
+    Event::End,
+    Event::Ordered(r(60, 4), r(64, 4)),
+    Event::Ordered(r(64, 4), r(60, 4)),
+    Event::Ordered(r(60, 5), r(64, 4)),
+    Event::Ordered(r(63, 1), r(60, 4)),
+    Event::Ordered(r(60, 8), r(60, 8)),
+    Event::Ordered(r(62, 0), r(60, 8)),
+    Event::Ordered(r(60, 8), r(64, 0)),
+];
+
 /// How often each kind of finding, each refusal, each kind of interval and each sort of exposure
 /// came up.
 #[derive(Clone, Debug, Default)]
 struct Tally {
     traces: usize,
     kinds: [usize; 9],
-    refused: [usize; 15],
+    refused: [usize; 19],
     /// None, open, open and written back, closed.
     intervals: [usize; 4],
     /// Exposures that are refused, without a remainder, and with one.
@@ -186,6 +204,9 @@ struct Tally {
     torn: usize,
     /// Events with a range of no bytes in accepted lists.
     no_bytes: no_bytes::Counts,
+    /// Orders given singly that were accepted, and that 18 refused.
+    accepted: orders::Counts,
+    shared: orders::Counts,
 }
 
 impl Tally {
@@ -227,7 +248,10 @@ impl Tally {
         let refused = self.refused.iter_mut().zip(other.refused);
         let intervals = self.intervals.iter_mut().zip(other.intervals);
         let exposures = self.exposures.iter_mut().zip(other.exposures);
+        let accepted = self.accepted.iter_mut().zip(other.accepted);
+        let shared = self.shared.iter_mut().zip(other.shared);
         let sums = kinds.chain(refused).chain(intervals).chain(exposures);
+        let sums = sums.chain(accepted).chain(shared);
         sums.for_each(|(sum, more)| *sum += more);
         self.torn += other.torn;
         self.no_bytes.join(&other.no_bytes);
@@ -524,5 +548,50 @@ fn no_bytes_of_everything_up_to_four_events() {
     let tally = for_all(&[], &NO_BYTES, 0..=4, compare_intervals);
     let lists = 1 + 16 + 256 + 4_096 + 65_536;
     assert_eq!(tally.traces, lists);
+    assert!(tally.intervals.iter().all(|&count| count > 0));
+}
+
+/// Gives the events singly, and those alone that were accepted to another run: both get the same
+/// findings, and the same answers after the last event.
+fn compare_accepted(records: &[Record], tally: &mut Tally) {
+    let (mut every, mut accepted) = (Run::fresh(LINES), Run::fresh(LINES));
+    for record in records {
+        match every.give(record) {
+            Ok(finding) => {
+                assert_eq!(accepted.give(record), Ok(finding), "{records:?}");
+                orders::count(&mut tally.accepted, [record.event]);
+            }
+            Err(18) => orders::count(&mut tally.shared, [record.event]),
+            Err(_) => {}
+        }
+    }
+    for byte in 0..every.window() {
+        let interval = every.interval(byte);
+        assert_eq!(interval, accepted.interval(byte), "{byte}: {records:?}");
+    }
+    assert_eq!(every.exposure(), accepted.exposure(), "{records:?}");
+    assert_eq!(every.close(), accepted.close(), "{records:?}");
+}
+
+#[test]
+fn shared_bytes_up_to_five_events() {
+    let tally = for_all(&[], &SHARED, 0..=5, |records, tally| {
+        tally.add(&compare(records));
+        compare_accepted(records, tally);
+    });
+    assert_eq!(tally.traces, 1 + 13 + 169 + 2_197 + 28_561 + 371_293);
+    assert_found(&tally, &[Kind::Holds, Kind::Lost, Kind::OutOfOrder]);
+    assert!(tally.refused[11] > 0 && tally.refused[13] > 0 && tally.refused[18] > 0);
+    assert_eq!(tally.accepted[orders::SHARE], 0);
+    assert!(tally.accepted[orders::TOUCH] > 0 && tally.accepted[orders::NO_BYTE_INSIDE] > 0);
+    let shared = tally.shared[orders::SHARE];
+    assert!(shared > 0 && shared == tally.shared.iter().sum());
+}
+
+/// Both ways, with the refused events passed over.
+#[test]
+fn shared_bytes_in_intervals() {
+    let tally = for_all(&[], &SHARED, 0..=4, compare_intervals);
+    assert_eq!(tally.traces, 1 + 13 + 169 + 2_197 + 28_561);
     assert!(tally.intervals.iter().all(|&count| count > 0));
 }

@@ -118,6 +118,9 @@ fn refusals() {
         (raw_record(Event::FENCE, 0, a, NOTHING, 0), 7),
         (event(Event::Persisted(Range::new(65, 0))), 9),
         (event(Event::Store(far)), 9),
+        (event(Event::Ordered(a, far)), 9),
+        (event(Event::Ordered(a, a)), 18),
+        (event(Event::Ordered(a, Range::new(7, 1))), 18),
         (event(Event::End), 11),
         (event(Event::Log(a)), 11),
     ] {
@@ -136,7 +139,7 @@ fn refusals() {
 #[test]
 fn random_traces() {
     let mut random = Random::new(41);
-    let (mut given, mut by_images, mut refused) = (0, 0, [0; 18]);
+    let (mut given, mut by_images, mut refused) = (0, 0, [0; 19]);
     for _ in 0..20_000 {
         let shape = match random.below(4) {
             0 => random::any_shape(&mut random),
@@ -162,7 +165,7 @@ fn random_traces() {
     }
     println!("{given} exposures, refused {refused:?}, {by_images} by images too");
     assert!(given > 4_000 && by_images > 18_000);
-    for number in [1, 3, 4, 5, 6, 7, 9, 11, 12, 13, 17] {
+    for number in [1, 3, 4, 5, 6, 7, 9, 11, 12, 13, 17, 18] {
         assert!(refused[number] > 10, "{number}: {}", refused[number]);
     }
     assert_eq!(refused[8], 0);

@@ -214,6 +214,9 @@ fn refusals() {
         (raw_record(Event::FENCE, 0, a, NOTHING, 0), 7),
         (event(Event::Persisted(Range::new(65, 0))), 9),
         (event(Event::Store(far)), 9),
+        (event(Event::Ordered(a, far)), 9),
+        (event(Event::Ordered(a, a)), 18),
+        (event(Event::Ordered(a, Range::new(7, 1))), 18),
         (event(Event::End), 11),
         (event(Event::Log(a)), 11),
     ] {
@@ -234,7 +237,7 @@ fn refusals() {
 struct Compared {
     /// Of the bytes of accepted traces: none, open, open and written back, closed.
     intervals: [usize; 4],
-    refused: [usize; 14],
+    refused: [usize; 19],
     by_images: usize,
 }
 
@@ -289,7 +292,7 @@ fn random_traces() {
     println!("{compared:?}");
     assert!(compared.by_images > 20_000);
     assert!(compared.intervals.iter().all(|&count| count > 1_000));
-    for number in [1, 3, 4, 5, 6, 7, 9, 11, 12, 13] {
+    for number in [1, 3, 4, 5, 6, 7, 9, 11, 12, 13, 18] {
         let count = compared.refused[number];
         assert!(count > 10, "{number}: {count}");
     }

@@ -163,6 +163,22 @@ fn whole_run() {
     );
 }
 
+/// What an earlier version left for `store 0/8` and `ordered 0/8 before 0/8`, which 18 now refuses.
+#[test]
+fn earlier_findings() {
+    let findings = [finding(0, [0, 0, 0, 0, 10]), finding(1, [0, 0, 0, 0, 11])];
+    let page = lines(&[
+        " event       site  finding          lost   kept moment  store",
+        "     2         11  holds               0      0      0      0",
+        "page 1 of 1                                                  ",
+    ]);
+    assert_eq!(text(&findings.concat()), page);
+    let mut entries = made().entries.iter();
+    let entry = entries.find(|entry| entry.case.group == "earlier");
+    let answers = &entry.expect("the calls have it").answers;
+    assert_eq!((answers.len(), &answers[0].text[..]), (1, page.as_bytes()));
+}
+
 #[test]
 fn no_whole_number_or_too_many() {
     for length in [

@@ -13,15 +13,17 @@
 use reference::direct::Run;
 use reference::images::History;
 use reference::no_bytes::{self, Beside};
+use reference::orders;
 use reference::random::{self, Mix, Random, Shape};
 use reference::{images, judge, judge_by_images, script, trace};
-use reference::{Interval, Kind, Outcome, Record, Way};
+use reference::{Event, Interval, Kind, Outcome, Record, Way};
 
 /// Compares the two ways on `count` traces, and gives the outcomes of those small enough.
 fn compare(seed: u64, count: usize, make: fn(&mut Random) -> Vec<u8>) -> Vec<Outcome> {
     let mut random = Random::new(seed);
     let mut outcomes = Vec::new();
     let mut no_bytes = no_bytes::Counts::default();
+    let mut orders = orders::Counts::default();
     for _ in 0..count {
         let trace = make(&mut random);
         let area = if random.chance(1, 50) { 24 } else { 65_536 };
@@ -34,13 +36,28 @@ fn compare(seed: u64, count: usize, make: fn(&mut Random) -> Vec<u8>) -> Vec<Out
         assert_eq!(direct, enumerated, "seed {seed}\n{}", text());
         if direct.report().is_some() {
             no_bytes.join(&compare_without(&trace));
+            orders::count(&mut orders, events_of(&trace));
         }
         outcomes.push(direct);
     }
     let compared = outcomes.len();
     println!("seed {seed}: {compared} of {count} compared; no bytes: {no_bytes}");
     assert!(no_bytes.least() > 0, "seed {seed}: {no_bytes}");
+    println!(
+        "seed {seed}: orders accepted: {orders:?} {:?}",
+        orders::SORTS
+    );
+    assert_eq!(orders[orders::SHARE], 0);
+    let others = [orders::TOUCH, orders::NO_BYTE_INSIDE, orders::APART];
+    assert!(others.iter().all(|&sort| orders[sort] > 500), "{orders:?}");
     outcomes
+}
+
+/// The events of an accepted trace.
+fn events_of(trace: &[u8]) -> Vec<Event> {
+    let body = trace::open(trace).expect("the trace is accepted");
+    let read = |bytes| trace::read(bytes).expect("the trace is accepted").event;
+    body.record_bytes().map(read).collect()
 }
 
 /// Compares an accepted trace with the one that has none of its events with a range of no bytes, and
@@ -48,14 +65,12 @@ fn compare(seed: u64, count: usize, make: fn(&mut Random) -> Vec<u8>) -> Vec<Out
 fn compare_without(trace: &[u8]) -> no_bytes::Counts {
     let body = trace::open(trace).expect("the trace is accepted");
     let mut beside = Beside::<Run>::fresh(body.lines);
-    let mut events = Vec::new();
     for bytes in body.record_bytes() {
         let record = trace::read(bytes).expect("the trace is accepted");
         beside.give(&record).expect("the trace is accepted");
-        events.push(record.event);
     }
     beside.compare();
-    let counts = no_bytes::Counts::of(events);
+    let counts = no_bytes::Counts::of(events_of(trace));
     assert_eq!(counts.sum(), beside.taken_out());
     counts
 }
@@ -115,9 +130,12 @@ fn more_valid_traces() {
 fn damaged_traces() {
     let outcomes = compare(3, 30_000, damaged_small);
     assert!(outcomes.len() > 27_000, "{}", outcomes.len());
-    for number in [1, 3, 4, 5, 14, 6, 7, 9, 11, 12, 13] {
+    for number in [1, 3, 4, 5, 14, 6, 7, 9, 11, 12, 13, 18] {
         assert!(refusals(&outcomes, number) > 0, "never refused by {number}");
     }
+    let shared = refusals(&outcomes, 18);
+    println!("refused by 18: {shared}");
+    assert!(shared > 1_000, "{shared}");
     assert_eq!(refusals(&outcomes, 8), 0);
     let accepted = outcomes.iter().filter_map(Outcome::report).count();
     assert!(accepted > 1_000, "{accepted}");

@@ -1,7 +1,10 @@
 //! Every refusal that a trace can get, with its order, against answers written by hand.
 
+use reference::direct::Run;
+use reference::images::History;
 use reference::trace::{assemble, encode, raw_record, raw_trailer, MARK};
-use reference::{judge, judge_by_images, Event, Outcome, Range, Record};
+use reference::writer::{self, Writer};
+use reference::{judge, judge_by_images, singly, Event, Outcome, Range, Record, Way};
 
 const NOTHING: Range = Range::new(0, 0);
 
@@ -109,7 +112,7 @@ fn lacking_fields() {
         let has_a = ![Event::FENCE, Event::BEGIN, Event::END].contains(&kind);
         let has_b = kind == Event::ORDERED;
         let used_a = if has_a { a } else { NOTHING };
-        let used_b = if has_b { a } else { NOTHING };
+        let used_b = if has_b { Range::new(64, 8) } else { NOTHING };
         let good = raw_record(kind, 0, used_a, used_b, 0xffff);
         for byte in 1..10 {
             let lacking = match byte {
@@ -223,6 +226,112 @@ fn transactions() {
     refused(&assemble(2, &[], &[begin]), 12, 13, 0);
     accepted(&assemble(2, &[], &[begin, log, end]), 36);
     accepted(&assemble(2, &[], &[[begin; 8], [end; 8]].concat()), 192);
+}
+
+#[test]
+fn shared_bytes() {
+    let (a, begin) = (Range::new(0, 8), event(Event::Begin));
+    let ordered = |a, b| event(Event::Ordered(a, b));
+    for b in [(0, 8), (7, 1), (7, 8), (0, 1), (2, 3), (0, 128)] {
+        let b = Range::new(b.0, b.1);
+        for record in [ordered(a, b), ordered(b, a)] {
+            refused(&assemble(2, &[], &[record]), 12, 18, 1);
+            refused(&second(record), 36, 18, 2);
+            refused(&assemble(2, &[7], &[begin, record]), 24, 18, 2);
+            refused(
+                &assemble(2, &[], &[[begin; 9], [record; 9]].concat()),
+                216,
+                12,
+                9,
+            );
+            refused(
+                &assemble(2, &[], &[[begin; 8], [record; 8]].concat()),
+                192,
+                18,
+                9,
+            );
+            refused(&second(record), 35, 14, 0);
+        }
+    }
+    for b in [(8, 8), (8, 120), (9, 1), (0, 0), (4, 0), (8, 0), (128, 0)] {
+        let b = Range::new(b.0, b.1);
+        accepted(&second(ordered(a, b)), 36);
+        accepted(&second(ordered(b, a)), 36);
+    }
+    let zero_set = raw_record(Event::ORDERED, 1, a, a, 0);
+    refused(&second(zero_set), 36, 7, 2);
+    refused(&second(raw_record(9, 0, a, a, 0)), 36, 6, 2);
+    refused(&second(ordered(Range::new(0, 129), a)), 36, 9, 2);
+    refused(&second(ordered(a, Range::new(0, 129))), 36, 9, 2);
+    refused(
+        &second(ordered(Range::new(128, 1), Range::new(128, 1))),
+        36,
+        9,
+        2,
+    );
+}
+
+/// Every pair of short ranges around a place, in a window of so many lines: each way and the writer
+/// give 9, 18 or none of them, by the bytes of both as sets. Gives the counts of none, 9 and 18.
+fn every_pair(lines: u16, first: u16) -> [usize; 3] {
+    const PLACES: u16 = 9;
+    let ranges: Vec<Range> = (first..first + PLACES)
+        .flat_map(|address| (0..PLACES).map(move |length| Range::new(address, length)))
+        .collect();
+    let set = |range: Range| ((1u64 << range.length) - 1) << (range.address - first);
+    let window = u64::from(lines) * 64 - u64::from(first);
+    let is_past = |range: Range| u64::from(range.address - first + range.length) > window;
+    let mut counts = [0; 3];
+    for &a in &ranges {
+        for &b in &ranges {
+            let (at, number) = match (is_past(a) || is_past(b), set(a) & set(b)) {
+                (true, _) => (1, Some(9)),
+                (false, 0) => (0, None),
+                (false, _) => (2, Some(18)),
+            };
+            let record = Record {
+                event: Event::Ordered(a, b),
+                site: 5,
+            };
+            assert_eq!(given::<Run>(lines, &record), number, "{record:?}");
+            assert_eq!(given::<History>(lines, &record), number, "{record:?}");
+            assert_eq!(written(lines, &record), number, "{record:?}");
+            counts[at] += 1;
+        }
+    }
+    counts
+}
+
+/// The number that a fresh run gives to an event.
+fn given<W: Way>(lines: u16, record: &Record) -> Option<u8> {
+    let (mut run, _) = singly::fresh::<W>(lines);
+    let given = singly::give(&mut run, record);
+    given.err().map(|refusal| refusal.number)
+}
+
+/// The number that a writer gives to an event.
+fn written(lines: u16, record: &Record) -> Option<u8> {
+    let mut writer = Writer {
+        lines,
+        offset: 0,
+        count: 0,
+        open: 0,
+    };
+    writer::event(&mut [0; 12], &mut writer, &encode(record)).err()
+}
+
+#[test]
+fn every_pair_of_ranges() {
+    for (lines, first) in [(1, 0), (2, 60), (1, 58), (2, 122), (64, 4_090)] {
+        let counts = every_pair(lines, first);
+        println!("{lines} lines, from {first}: none, 9 and 18: {counts:?}");
+        assert_eq!(counts.iter().sum::<usize>(), 81 * 81);
+        assert!(counts[0] > 0 && counts[2] > 0);
+        assert_eq!(
+            counts[1] > 0,
+            usize::from(first) + 16 > usize::from(lines) * 64
+        );
+    }
 }
 
 /// The order 1, 2, 3, 4, 5, 14, then record by record, then 13.

@@ -1,7 +1,7 @@
 //! The runs of the request, both ways, and the byte layouts.
 
 use reference::check::check;
-use reference::corpus::{no_bytes, torn};
+use reference::corpus::{no_bytes, shared, torn};
 use reference::direct::Run;
 use reference::images::History;
 use reference::script::Script;
@@ -112,7 +112,7 @@ fn small_runs_of_ordered() {
          expect out-of-order 8 0 1 2",
     );
     holds("store 60/8; expect none; ordered 60/4 before 64/4; expect out-of-order 60 64 1 1");
-    holds("store 0/8; expect none; ordered 0/8 before 0/8; expect holds 0 0 0 0");
+    holds("store 0/8; ordered 0/8 before 0/8; refused 18 at 2");
     holds("store 0/16; expect none; ordered 0/8 before 8/8; expect out-of-order 0 8 1 1");
 }
 
@@ -129,7 +129,7 @@ fn torn_stores() {
         let checked = check(&script);
         assert_eq!(checked.differences, Vec::<String>::new(), "{run:?}");
         // Every two lines of this one would have 257 × 257 images.
-        let too_many = run.name == "window-of-64-itself";
+        let too_many = run.name == "window-of-64-halves";
         assert_eq!(checked.both_ways, !too_many, "{run:?}");
         let report = checked.outcome.report().expect("the run is accepted");
         assert_others_get_none(&script, report);
@@ -177,6 +177,31 @@ fn ranges_of_no_bytes() {
     println!("{all} answers beside no bytes, {by_hand} of them by hand; {nones} events get none");
 }
 
+/// The runs of the corpus with orders between ranges that share a byte, or touch, or have none, with
+/// the answers that stand beside them.
+#[test]
+fn shared_bytes() {
+    let (by_hand, runs) = (shared::by_hand(), shared::runs());
+    assert_eq!((by_hand.len(), runs.len()), (55, 55 + 45 * 3));
+    assert_eq!(by_hand, runs[..55]);
+    let (mut asserted, mut refused) = (Vec::new(), [0; 19]);
+    for run in runs {
+        let script = run.read();
+        let checked = check(&script);
+        assert_eq!(checked.differences, Vec::<String>::new(), "{run:?}");
+        assert!(checked.both_ways, "{run:?}");
+        match checked.outcome {
+            Outcome::Accepted(report) => assert_others_get_none(&script, &report),
+            Outcome::Refused(refusal) => refused[usize::from(refusal.number)] += 1,
+        }
+        asserted.push(checked.compared);
+    }
+    let all: usize = asserted.iter().sum();
+    let by_hand: usize = asserted[..by_hand.len()].iter().sum();
+    println!("{all} answers of shared bytes, {by_hand} of them by hand; refused {refused:?}");
+    assert!(refused[18] > 100 && refused[9] > 10);
+}
+
 #[test]
 fn small_runs_of_transactions() {
     holds("begin; expect none; store 0/8; expect unlogged 0 0 0 0; end; expect lost 0 0 3 2");
@@ -198,7 +223,8 @@ fn small_runs_of_ranges() {
     holds("write-back 121/8; refused 9 at 1");
     holds("persisted 120/8; expect holds");
     holds("persisted 121/8; refused 9 at 1");
-    holds("ordered 120/8 before 120/8; expect holds");
+    holds("ordered 120/8 before 112/8; expect holds");
+    holds("ordered 112/8 before 120/8; expect holds");
     holds("ordered 121/8 before 120/8; refused 9 at 1");
     holds("ordered 120/8 before 121/8; refused 9 at 1");
     holds("begin; expect none; log 120/8; expect none; end; expect empty");

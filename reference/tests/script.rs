@@ -182,6 +182,8 @@ fn mistakes_of_words() {
     mistake("lines 2\nrefused 0 at 0", 2, "number 0");
     mistake("lines 2\nrefused 8 at 1", 2, "number 8");
     mistake("lines 2\nrefused 15 at 0", 2, "number 15");
+    mistake("lines 2\nrefused 17 at 0", 2, "number 17");
+    mistake("lines 2\nrefused 19 at 0", 2, "number 19");
 }
 
 #[test]

@@ -8,10 +8,9 @@ use reference::images::{self, History};
 use reference::random::{self, Random, Shape};
 use reference::script::{Expect, Script};
 use reference::writer::Writer;
-use reference::{
-    no_bytes, singly, Event, Exposure, Finding, Interval, Kind, Range, Record, Refusal,
-};
+use reference::{no_bytes, orders, singly, Event, Exposure, Finding, Interval};
 use reference::{trace, Totals, Way};
+use reference::{Kind, Range, Record, Refusal};
 use std::collections::BTreeMap;
 use std::path::Path;
 
@@ -26,6 +25,10 @@ const EXPOSURES: &str = include_str!("data/exposure.txt");
 
 /// The answers to the runs with ranges of no bytes, worked out by hand, in the same form.
 const NO_BYTES: &str = include_str!("data/no_bytes.txt");
+
+/// The answers to the runs with orders between ranges that share a byte, worked out by hand, in the
+/// same form.
+const SHARED: &str = include_str!("data/shared.txt");
 
 /// The site of the events given here.
 const SITE: u16 = 7;
@@ -358,6 +361,9 @@ fn any_events(random: &mut Random, shape: &Shape) -> Vec<Event> {
             events.push(edge_event(random));
         }
         events.push(record.event);
+        if let (Some(a), true) = (record.event.range_a(), random.chance(1, 5)) {
+            events.push(Event::Ordered(a, random::near(random, a)));
+        }
     }
     events
 }
@@ -415,8 +421,9 @@ fn give_all<W: Way>(lines: u16, events: &[Event]) -> (Answers, Vec<Result<Findin
 #[test]
 fn random_events() {
     let mut random = Random::new(9);
-    let (mut lists, mut refused) = (0, [0; 15]);
+    let (mut lists, mut refused) = (0, [0; 19]);
     let mut no_bytes = no_bytes::Counts::default();
+    let mut orders = orders::Counts::default();
     for _ in 0..2_010 {
         let shape = random::small_shape(&mut random);
         let events = any_events(&mut random, &shape);
@@ -425,6 +432,7 @@ fn random_events() {
         let alone = give_all::<Run>(shape.lines, &accepted);
         assert_eq!(alone, (last.clone(), findings), "{events:?}");
         no_bytes.add(accepted.iter().copied());
+        orders::count(&mut orders, accepted.iter().copied());
         for refusal in given.iter().filter_map(|result| result.err()) {
             refused[usize::from(refusal.number)] += 1;
         }
@@ -438,8 +446,11 @@ fn random_events() {
     assert!(lists >= 2_000, "{lists}");
     println!("no bytes, accepted: {no_bytes}");
     assert!(no_bytes.least() > 100, "{no_bytes}");
+    println!("orders, accepted: {orders:?} {:?}", orders::SORTS);
+    assert_eq!(orders[orders::SHARE], 0);
+    assert!(orders[orders::TOUCH] > 100 && orders[orders::NO_BYTE_INSIDE] > 100);
     assert_eq!(refused[8], 0);
-    for number in [9, 11, 12] {
+    for number in [9, 11, 12, 18] {
         assert!(
             refused[number] > 50,
             "refused by {number}: {}",
@@ -645,7 +656,7 @@ fn calls_cover_every_answer() {
     some("fresh", Sort::Refused(4), 10);
     some("ask", Sort::Refused(9), 10);
     some("close", Sort::Refused(13), 10);
-    for number in 9..=12 {
+    for number in [9, 18, 10, 11, 12] {
         some("event", Sort::Refused(number), 10);
     }
     assert_eq!(counts.count("event", Sort::Refused(8)), 0);
@@ -676,7 +687,7 @@ fn calls_of_the_writer_cover_every_answer() {
         some("start", Sort::Refused(number), 5);
     }
     some("write", Sort::Taken, 1_000);
-    for number in [2, 6, 7, 9, 11, 12, 15] {
+    for number in [2, 6, 7, 9, 18, 11, 12, 15] {
         some("write", Sort::Refused(number), 10);
     }
     // 2 comes before 10, and 8 is no longer given.
@@ -698,10 +709,10 @@ fn calls_stay_in_their_bounds() {
     let made = build();
     let of_writer = made.calls().filter(|call| call.is_of_writer()).count();
     let on_runs = made.calls().count() - of_writer;
-    assert!((5_000..=14_800).contains(&on_runs), "{on_runs}");
+    assert!((5_000..=16_000).contains(&on_runs), "{on_runs}");
     assert!((2_000..=4_000).contains(&of_writer), "{of_writer}");
-    assert!(made.to_bytes().len() <= 215_000);
-    assert!(made.text().len() <= 620_000);
+    assert!(made.to_bytes().len() <= 230_000);
+    assert!(made.text().len() <= 640_000);
     for entry in &made.entries {
         let (first, others) = entry.case.calls.split_first().expect("a run has calls");
         if entry.case.is_of_writer() {
@@ -812,6 +823,20 @@ fn exposures_written_by_hand() {
     assert!(both(few));
 }
 
+/// The runs with orders between ranges that share a byte. All but the one of many fences are answered
+/// by images too when they are made.
+#[test]
+fn shared_bytes_written_by_hand() {
+    let made = build();
+    let expected = answers_of(SHARED);
+    assert_eq!(expected.len(), 202);
+    assert_eq!(group_lines::<Run>(&made, "shared"), expected);
+    let entries = made.entries.iter();
+    let group: Vec<_> = entries.filter(|e| e.case.group == "shared").collect();
+    let both_ways = group.iter().filter(|entry| entry.both_ways);
+    assert_eq!((group.len(), both_ways.count()), (16, 15));
+}
+
 /// Exposures in between change no other answer.
 #[test]
 fn exposures_change_nothing() {
@@ -846,7 +871,7 @@ persisted 0/8: finding 2 lost 0 kept 0 moment 4 store 2",
     "ordered 0/8 before 8/8: finding 1 lost 0 kept 0 moment 0 store 0",
     "ordered 8/8 before 0/8: finding 3 lost 8 kept 0 moment 1 store 2",
     "ordered 60/4 before 64/4: finding 3 lost 60 kept 64 moment 1 store 1",
-    "ordered 0/8 before 0/8: finding 1 lost 0 kept 0 moment 0 store 0",
+    "ordered 0/8 before 0/8: refused 18",
     "ordered 0/8 before 8/8: finding 3 lost 0 kept 8 moment 1 store 1",
     "store 0/8: finding 4 lost 0 kept 0 moment 0 store 0
 end: finding 2 lost 0 kept 0 moment 3 store 2",
@@ -899,16 +924,28 @@ fn torn_stores() {
     }
 }
 
-/// The runs of the corpus with ranges of no bytes, with the answers that stand beside them.
+/// The runs of the corpus with ranges of no bytes, and with orders between ranges that share a byte,
+/// with the answers that stand beside them.
 #[test]
-fn no_bytes_of_the_corpus() {
+fn runs_of_the_corpus() {
     let made = build();
-    let group = "no bytes of the corpus";
+    compare_group(
+        &made,
+        "no bytes of the corpus",
+        corpus::no_bytes::given_singly(),
+    );
+    compare_group(
+        &made,
+        "shared of the corpus",
+        corpus::shared::given_singly(),
+    );
+}
+
+fn compare_group(made: &Calls, group: &str, runs: Vec<corpus::run::Run>) {
     let entries = made
         .entries
         .iter()
         .filter(|entry| entry.case.group == group);
-    let runs = corpus::no_bytes::given_singly();
     assert_eq!(entries.clone().count(), runs.len());
     for (entry, run) in entries.zip(runs) {
         assert!(entry.both_ways, "{}", run.name);
@@ -969,11 +1006,7 @@ fn calls_cover_ranges_of_no_bytes() {
                 Call::Write(bytes) => (&mut written, trace::read(bytes).ok().map(|r| r.event)),
                 _ => continue,
             };
-            let number = match answer {
-                Some(Answer::Refused(number) | Answer::Writer(Err(number), _)) => *number,
-                _ => 0,
-            };
-            counts.entry(number).or_default().add(event);
+            counts.entry(number_of(answer)).or_default().add(event);
         }
     }
     for (name, counts) in [("given", &given), ("written", &written)] {
@@ -998,6 +1031,164 @@ fn calls_cover_ranges_of_no_bytes() {
     };
     some(&given, &[10, 11]);
     some(&written, &[2, 11, 15]);
+}
+
+/// Orders by how their ranges lie, given and written, by the answer's number; 0 for a finding or a
+/// record that was taken.
+type Orders = BTreeMap<u8, orders::Counts>;
+
+#[test]
+fn calls_cover_shared_bytes() {
+    let made = build();
+    let (mut given, mut written) = (Orders::new(), Orders::new());
+    for entry in &made.entries {
+        for (call, answer) in entry.case.calls.iter().zip(&entry.answers) {
+            let (counts, event) = match call {
+                Call::Give(record) => (&mut given, Some(record.event)),
+                Call::Write(bytes) => (&mut written, trace::read(bytes).ok().map(|r| r.event)),
+                _ => continue,
+            };
+            orders::count(counts.entry(number_of(answer)).or_default(), event);
+        }
+    }
+    println!("orders given, by number: {given:?} {:?}", orders::SORTS);
+    println!("orders written, by number: {written:?}");
+    for (counts, numbers) in [(&given, &[9, 10][..]), (&written, &[2, 9, 15])] {
+        let of = |number: u8, sort: usize| counts.get(&number).map_or(0, |counts| counts[sort]);
+        assert_eq!(of(0, orders::SHARE), 0);
+        assert!(of(0, orders::TOUCH) > 0 && of(0, orders::NO_BYTE_INSIDE) > 0);
+        let shared = of(18, orders::SHARE);
+        let refused = counts.get(&18).map_or(0, |counts| counts.iter().sum());
+        assert!(shared > 0 && shared == refused);
+        for &number in numbers {
+            let all: usize = counts.get(&number).map_or(0, |counts| counts.iter().sum());
+            assert!(all > 0, "no order refused by {number}");
+        }
+    }
+    assert!(given[&9][orders::SHARE] > 0 && given[&10][orders::SHARE] == 0);
+    assert!(written[&9][orders::SHARE] > 0 && written[&2][orders::SHARE] > 0);
+    assert_eq!(written[&15][orders::SHARE], 0);
+}
+
+/// The number of a refusal, 0 for any other answer.
+fn number_of(answer: &Option<Answer>) -> u8 {
+    match answer {
+        Some(Answer::Refused(number) | Answer::Writer(Err(number), _)) => *number,
+        _ => 0,
+    }
+}
+
+// Wrong rules, each found by the answers worked out by hand.
+
+/// The number that a rule gives to an order, when so many events are taken.
+type Rule = fn(window: usize, a: Range, b: Range, taken: usize) -> Option<u8>;
+
+/// The first of these limits that is broken.
+fn first_broken(limits: [(bool, u8); 3]) -> Option<u8> {
+    let broken = limits.into_iter().find(|&(broken, _)| broken);
+    broken.map(|(_, number)| number)
+}
+
+fn is_past(window: usize, a: Range, b: Range) -> bool {
+    a.end() > window || b.end() > window
+}
+
+/// The rule with another test for 18.
+fn with(window: usize, a: Range, b: Range, taken: usize, shared: bool) -> Option<u8> {
+    let last = taken == 65_535;
+    first_broken([(is_past(window, a, b), 9), (shared, 18), (last, 10)])
+}
+
+fn start(range: Range) -> usize {
+    usize::from(range.address)
+}
+
+const RIGHT: Rule = |window, a, b, taken| with(window, a, b, taken, orders::share_a_byte(a, b));
+
+const WRONG: [(&str, Rule); 9] = [
+    ("neighbours refused", |window, a, b, taken| {
+        let shared = a.has_bytes() && b.has_bytes() && start(a) <= b.end() && start(b) <= a.end();
+        with(window, a, b, taken, shared)
+    }),
+    ("a shared last byte taken", |window, a, b, taken| {
+        let shared = start(a).max(start(b)) + 1 < a.end().min(b.end());
+        with(window, a, b, taken, shared)
+    }),
+    (
+        "no byte inside the other range refused",
+        |window, a, b, taken| {
+            with(
+                window,
+                a,
+                b,
+                taken,
+                start(a) < b.end() && start(b) < a.end(),
+            )
+        },
+    ),
+    (
+        "no byte at the other range's start refused",
+        |window, a, b, taken| {
+            let shared = orders::share_a_byte(a, b) || start(a) == start(b);
+            with(window, a, b, taken, shared)
+        },
+    ),
+    ("only the same range refused", |window, a, b, taken| {
+        with(window, a, b, taken, a == b && a.has_bytes())
+    }),
+    (
+        "only a start inside the other range refused",
+        |window, a, b, taken| with(window, a, b, taken, b.has_bytes() && a.covers(start(b))),
+    ),
+    ("18 before 9", |window, a, b, taken| {
+        let (past, shared) = (is_past(window, a, b), orders::share_a_byte(a, b));
+        first_broken([(shared, 18), (past, 9), (taken == 65_535, 10)])
+    }),
+    ("10 before 18", |window, a, b, taken| {
+        let (past, shared) = (is_past(window, a, b), orders::share_a_byte(a, b));
+        first_broken([(past, 9), (taken == 65_535, 10), (shared, 18)])
+    }),
+    ("10 before 9", |window, a, b, taken| {
+        let (past, shared) = (is_past(window, a, b), orders::share_a_byte(a, b));
+        first_broken([(taken == 65_535, 10), (past, 9), (shared, 18)])
+    }),
+];
+
+/// How many orders of the group `shared` get another number by the rule.
+fn differing(made: &Calls, rule: Rule) -> usize {
+    let mut differing = 0;
+    for entry in made.entries.iter().filter(|e| e.case.group == "shared") {
+        let (mut window, mut taken) = (0, 0);
+        for (call, answer) in entry.case.calls.iter().zip(&entry.answers) {
+            let number = number_of(answer);
+            match call {
+                Call::Fresh(lines) if number == 0 => window = 64 * usize::from(*lines),
+                Call::Fresh(_) => window = 64,
+                Call::Fences(count) => taken += usize::from(*count),
+                Call::Give(record) => {
+                    if let Event::Ordered(a, b) = record.event {
+                        let by_rule = rule(window, a, b, taken).unwrap_or(0);
+                        differing += usize::from(by_rule != number);
+                    }
+                    taken += usize::from(number == 0);
+                }
+                _ => {}
+            }
+        }
+    }
+    differing
+}
+
+/// The answers of the group are those worked out by hand.
+#[test]
+fn wrong_rules_are_found() {
+    let made = build();
+    assert_eq!(differing(&made, RIGHT), 0);
+    for (name, rule) in WRONG {
+        let found = differing(&made, rule);
+        println!("{name}: {found} orders differ");
+        assert!(found > 0, "{name}");
+    }
 }
 
 /// The lines of events with a finding or a refusal.

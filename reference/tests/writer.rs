@@ -119,6 +119,8 @@ fn refused_events() {
     let lacking = raw_record(5, 0, Range::new(129, 0), Range::new(1, 0), 0);
     let past_empty = raw_record(5, 0, Range::new(129, 0), Range::new(0, 0), 0);
     let past = raw_record(5, 0, Range::new(127, 2), Range::new(0, 0), 0);
+    let past_shared = raw_record(8, 0, Range::new(127, 2), Range::new(127, 2), 0);
+    let shared = raw_record(8, 0, Range::new(127, 1), Range::new(120, 8), 0);
     let empty = raw_record(5, 0, Range::new(128, 0), Range::new(0, 0), 0);
     let broken = [
         (unknown, 6),
@@ -126,6 +128,8 @@ fn refused_events() {
         (lacking, 7),
         (past_empty, 9),
         (past, 9),
+        (past_shared, 9),
+        (shared, 18),
         (empty, 11),
         (LOG, 11),
         (END, 11),
@@ -189,7 +193,7 @@ fn calls_written_by_hand() {
         compared += expected.len();
     }
     println!("{compared} answers written by hand");
-    assert_eq!(compared, 526);
+    assert_eq!(compared, 604);
 }
 
 // Files that other code makes too.
@@ -253,7 +257,7 @@ fn events_get_the_number_of_the_judge() {
         (65_535, 1),
     ];
     let ranges = edges.map(|(address, length)| Range::new(address, length));
-    let mut counts = [0; 13];
+    let mut counts = [0; 19];
     for open in 0..=8 {
         let mut records = vec![BEGIN; open];
         let writer = numbers(2, 3, open as u32, open as u16);
@@ -269,8 +273,8 @@ fn events_get_the_number_of_the_judge() {
             }
         }
     }
-    println!("taken, and refused by 1 to 12: {counts:?}");
-    for number in [0, 6, 7, 9, 11, 12] {
+    println!("taken, and refused by 1 to 18: {counts:?}");
+    for number in [0, 6, 7, 9, 11, 12, 18] {
         assert!(counts[number] > 0, "{number}");
     }
     assert_eq!(counts[8], 0);
@@ -456,8 +460,8 @@ fn any_preamble(random: &mut Random) -> Vec<u8> {
     (0..length).map(|_| random.bits() as u8).collect()
 }
 
-/// Events that are accepted without the others; between them records with fields at the edges, and
-/// begins up to one too many.
+/// Events that are accepted without the others; between them records with fields at the edges, begins
+/// up to one too many, and orders between ranges near each other.
 fn any_records(random: &mut Random, lines: u16) -> Vec<[u8; RECORD]> {
     let shape = random::Shape {
         lines,
@@ -473,6 +477,10 @@ fn any_records(random: &mut Random, lines: u16) -> Vec<[u8; RECORD]> {
             records.extend([END; 8]);
         }
         records.push(encode(&record));
+        if let (Some(a), true) = (record.event.range_a(), random.chance(1, 6)) {
+            let event = Event::Ordered(a, random::near(random, a));
+            records.push(encode(&Record { event, site: 9 }));
+        }
     }
     records
 }
@@ -536,7 +544,7 @@ fn random_calls() {
         }
     };
     some("start", &[0, 2, 4, 15]);
-    some("event", &[0, 2, 6, 7, 9, 11, 12, 15]);
+    some("event", &[0, 2, 6, 7, 9, 18, 11, 12, 15]);
     assert_eq!(counts.get(&("event", 8)), None);
     some("close", &[0, 13, 15]);
 }

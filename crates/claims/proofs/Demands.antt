@@ -19,7 +19,7 @@ use Rattle.history.specs.Found.{findingBy}
 use Rattle.history.specs.Claim.{Claim}
 use Rattle.history.specs.Transaction.{depth}
 use Rattle.history.specs.Given.{windowOf, RefusedBy, Accepted}
-use Rattle.history.specs.Small.{SmallRun, smallRuns, recorded, foundAll}
+use Rattle.history.specs.Small.{SmallRun, smallRuns, recorded}
 use Rattle.history.proofs.Claim.{finding-claim}
 use Rattle.history.proofs.Given.{whole-claim, one-run}
 use Rattle.history.proofs.Exactly.{claimed as claim-of, persisted-holds, ordered-holds, end-holds}
@@ -80,7 +80,7 @@ module _ (asked : ℕ) (given : List Record) where
           )
 
 -- the starred small runs: the answers of the calls are those of the accepted events, which the table's theorem computes
-starred : map (λ (run : SmallRun). repliesFrom 2 (recorded (run .given))) smallRuns ≡ map (λ (run : SmallRun). map answerReply (foundAll (run .findings))) smallRuns
+starred : map (λ (run : SmallRun). repliesFrom 2 (recorded (run .given))) smallRuns ≡ map (λ (run : SmallRun). map answerReply (run .answers)) smallRuns
 starred = (λ i. map (λ (run : SmallRun). map answerReply (same 2 (recorded (run .given)) i)) smallRuns) ∙ ap (map (map answerReply)) small-runs
 
 pub demand1 : Demand1

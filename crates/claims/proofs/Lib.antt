@@ -23,4 +23,5 @@ pub mod TraceExposed  -- the mean exposure of a trace; request 4 holds
 pub mod NoBytes  -- request 5 holds
 pub mod TraceNamed  -- the persist interval of a byte after a trace
 pub mod Named  -- request 7 holds
+pub mod Shared  -- request 8 holds
 pub mod Demands  -- the demands hold

@@ -34,6 +34,7 @@ not-nine lines h r k (First.here t) e = contradiction t k
 not-nine lines h r k (First.later a (First.here t)) e = omega (arith, e)
 not-nine lines h r k (First.later a (First.later b (First.here t))) e = omega (arith, e)
 not-nine lines h r k (First.later a (First.later b (First.later c (First.here t)))) e = omega (arith, e)
+not-nine lines h r k (First.later a (First.later b (First.later c (First.later d (First.here t))))) e = omega (arith, e)
 
 module _ (asked : ℕ) (given : List Record) (r : Record) where
   not-past : (at : ℕ) → anyRange (isPast (windowOf asked)) (rangesOf (r .event)) ≡ false → givenReply (giveOf (runFrom asked given) r) ≢ Reply.refused 9 at

@@ -101,7 +101,7 @@ module _ (preamble : List ℕ) (events : List Record) (lines : ℕ) (window : ba
             take-at preamble (recordsBytes events ++ trailerWith (length preamble) (length events) lines) (length preamble) refl;
       }
 
-first-part : {a : List Limit} {x : Refusal} → First a x → (b : List Limit) → First (a ++ b) x
+pub first-part : {a : List Limit} {x : Refusal} → First a x → (b : List Limit) → First (a ++ b) x
 first-part (First.here e) b = First.here e
 first-part (First.later e k) b = First.later e (first-part k b)
 

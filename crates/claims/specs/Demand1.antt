@@ -1,7 +1,7 @@
 -- Demand 1, for fresh windows, events, bytes asked, closings, records and traces, for a writer's calls, for pages and for mean exposure:
 -- whatever breaks a stated limit is refused by the first number that applies, and by no number otherwise; run, findings area, writer and
 -- its area, and page area are then what they were. The numbers 1 to 14 are document 01's; so is the record's number beside each. 15 is
--- request 1's, 16 is request 3's, 17 is request 4's. Request 5 retired 8.
+-- request 1's, 16 is request 3's, 17 is request 4's, 18 is request 8's. Request 5 retired 8.
 use mathlib.Core.Path.{_≡_}
 use mathlib.Core.Logic.{_≢_, _⊎_}
 use mathlib.Core.List.{List, [], _∷_, _++_}
@@ -53,9 +53,9 @@ pub record Demand1 : Type 0 where
       (windowReply (freshOf asked) ≡ Reply.refused 4 0) × (freshOf asked .run ≡ emptyRun 1)
   pub windowTaken : (asked : ℕ) → 1 ≤ asked → asked ≤ mostLines →
       (windowReply (freshOf asked) ≡ Reply.values []) × (freshOf asked .run ≡ emptyRun asked)
-  -- an event given singly: the first of 9, 10, 11, 12 that applies after the accepted events; the run is as it was
+  -- an event given singly: the first of 9, 18, 10, 11, 12 that applies after the accepted events; the run is as it was
   pub eventNumbers : (lines : ℕ) (h : History) (e : Event) →
-      limitNumbers (limitsBy (ofHistory lines h) e) ≡ 9 ∷ 10 ∷ 11 ∷ 12 ∷ []
+      limitNumbers (limitsBy (ofHistory lines h) e) ≡ 9 ∷ 18 ∷ 10 ∷ 11 ∷ 12 ∷ []
   pub eventRefused : (asked : ℕ) (given : List Record) (r : Record) {x : Refusal} → RefusedBy (windowOf asked) (takenFrom asked given) r x →
       (givenReply (giveOf (runFrom asked given) r) ≡ Reply.refused (numberOf x) 0) ×
       (giveOf (runFrom asked given) r .run ≡ runFrom asked given)
@@ -83,9 +83,9 @@ pub record Demand1 : Type 0 where
   -- a trace: the first of 1, 2, 3, 4, 5, 14 that applies, at 0
   pub traceNumbers : (trace area : List ℕ) → limitNumbers (traceLimits trace area) ≡ 1 ∷ 2 ∷ 3 ∷ 4 ∷ 5 ∷ 14 ∷ []
   pub traceRefused : (trace area : List ℕ) {x : Refusal} → First (traceLimits trace area) x → Rejected trace area (numberOf x) 0
-  -- else the first record to which one of 6, 7, 9, 10, 11, 12 applies, by the first that does, at the record's number from 1
+  -- else the first record to which one of 6, 7, 9, 18, 10, 11, 12 applies, by the first that does, at the record's number from 1
   pub recordNumbers : (lines : ℕ) (h : History) (s : List ℕ) →
-      limitNumbers (recordLimits lines h s) ≡ 6 ∷ 7 ∷ 9 ∷ 10 ∷ 11 ∷ 12 ∷ []
+      limitNumbers (recordLimits lines h s) ≡ 6 ∷ 7 ∷ 9 ∷ 18 ∷ 10 ∷ 11 ∷ 12 ∷ []
   pub recordRefused : (trace area : List ℕ) {x : Refusal} {n : ℕ} → NoneBroken (traceLimits trace area) → StopsAt trace x n →
       Rejected trace area (numberOf x) n
   pub recordsDecided : (trace : List ℕ) → ((x : Refusal) × (n : ℕ) × StopsAt trace x n) ⊎ ((h : History) × TakesAll trace h)
@@ -103,8 +103,8 @@ pub record Demand1 : Type 0 where
   pub startTaken : (area preamble : List ℕ) (lines : ℕ) → NoneBroken (startLimits (length area) (length preamble) lines) →
       (startedOf area preamble lines ≡ Ready (writerWith lines (length preamble) 0 0)) ×
       (areaStarted area preamble lines ≡ preamble ++ drop (length preamble) area)
-  -- an event given to any writer: the first of 2, 9, 10, 11, 12, 15 that applies, with writer and area as they were
-  pub writeNumbers : (room at : ℕ) (v : View) (e : Event) → limitNumbers (writeLimits room at v e) ≡ 2 ∷ 9 ∷ 10 ∷ 11 ∷ 12 ∷ 15 ∷ []
+  -- an event given to any writer: the first of 2, 9, 18, 10, 11, 12, 15 that applies, with writer and area as they were
+  pub writeNumbers : (room at : ℕ) (v : View) (e : Event) → limitNumbers (writeLimits room at v e) ≡ 2 ∷ 9 ∷ 18 ∷ 10 ∷ 11 ∷ 12 ∷ 15 ∷ []
   pub writeRefused : (area : List ℕ) (w : Writer) (r : Record) {x : Refusal} →
       First (writeLimits (length area) (recordsEnd w) (viewOf w) (r .event)) x →
       (writtenReply (writtenOf area w r) ≡ Reply.refused (numberOf x) 0) × (writtenOf area w r .writer ≡ w) × (areaWritten area w r ≡ area)
@@ -112,7 +112,7 @@ pub record Demand1 : Type 0 where
       writtenReply (writtenOf area w r) ≡ Reply.values []
   -- an event that comes as bytes: 6 and 7 after 2 and before 9
   pub bytesNumbers : (room at : ℕ) (v : View) (s : List ℕ) →
-      limitNumbers (bytesLimits room at v s) ≡ 2 ∷ 6 ∷ 7 ∷ 9 ∷ 10 ∷ 11 ∷ 12 ∷ 15 ∷ []
+      limitNumbers (bytesLimits room at v s) ≡ 2 ∷ 6 ∷ 7 ∷ 9 ∷ 18 ∷ 10 ∷ 11 ∷ 12 ∷ 15 ∷ []
   pub bytesRefused : (area : List ℕ) (w : Writer) (s : List ℕ) {x : Refusal} → First (bytesLimits (length area) (recordsEnd w) (viewOf w) s) x →
       (writtenReply (bytesWrittenOf area w s) ≡ Reply.refused (numberOf x) 0) × (bytesWrittenOf area w s .writer ≡ w) ×
       (areaBytesWritten area w s ≡ area)
@@ -150,7 +150,7 @@ pub record Demand1 : Type 0 where
   pub exposureFileNumbers : (trace : List ℕ) → limitNumbers (fileLimits trace) ≡ 1 ∷ 2 ∷ 3 ∷ 4 ∷ 5 ∷ []
   pub exposureFileRefused : (trace : List ℕ) {x : Refusal} → First (fileLimits trace) x →
       traceExposureReply (traceExposureOf trace) ≡ Reply.refused (numberOf x) 0
-  -- else the first record to which one of 6, 7, 9, 10, 11, 12 applies, by the first that does, at the record's number
+  -- else the first record to which one of 6, 7, 9, 18, 10, 11, 12 applies, by the first that does, at the record's number
   pub exposureRecordRefused : (trace : List ℕ) {x : Refusal} {n : ℕ} → NoneBroken (fileLimits trace) → StopsAt trace x n →
       traceExposureReply (traceExposureOf trace) ≡ Reply.refused (numberOf x) n
   -- else 13, at 0

@@ -16,7 +16,7 @@ use Rattle.history.specs.Interval.{epochAt}
 use Rattle.history.specs.Assertion.{BrokenByte, BrokenPair}
 use Rattle.history.specs.Transaction.{depth, Since}
 use Rattle.history.specs.Given.{windowOf, Accepted, ClaimRun, reported}
-use Rattle.history.specs.Small.{SmallRun, smallRuns, recorded, foundAll}
+use Rattle.history.specs.Small.{SmallRun, smallRuns, recorded}
 use Rattle.events.specs.Give.{giveOf}
 use Rattle.engine.specs.Call.{freshOf, closeOf}
 use Rattle.engine.specs.Reply.{givenReply, closingReply}
@@ -71,6 +71,6 @@ pub record Demand3 : Type 0 where
   -- the findings area of an accepted trace holds, for each record in order, the finding that its event gets when the trace's events
   -- are given singly from the fresh window that the trace is judged from
   pub traces : (trace area totals : List ℕ) → verdictReply (verdictOf trace area) ≡ Reply.values totals → GivenSingly trace area totals
-  -- the starred small runs, given in a fresh window of two lines, get the findings of document 01's table
+  -- the starred small runs, given in a fresh window of two lines, get the answers of document 01's table, as document 02 changed it
   pub starred : map (λ (run : SmallRun). repliesFrom 2 (recorded (run .given))) smallRuns ≡
-      map (λ (run : SmallRun). map answerReply (foundAll (run .findings))) smallRuns
+      map (λ (run : SmallRun). map answerReply (run .answers)) smallRuns

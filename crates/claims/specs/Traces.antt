@@ -22,7 +22,7 @@ use Rattle.trace.specs.Checked.{readLimits}
 use Rattle.verdict.specs.Verdict.{areaSize, verdictOf, verdictReply, areaAfter}
 use Rattle.claims.specs.After.{runFrom}
 
--- the limits on a record after the history, in order: 6 and 7 on its bytes, then 9 to 12 on its event
+-- the limits on a record after the history, in order: 6 and 7 on its bytes, then 9, 18, 10 to 12 on its event
 abbrev pub recordLimits : (lines : ℕ) → History → List ℕ → List Limit
 recordLimits lines h s = readLimits s ++ limitsBy (ofHistory lines h) (recordOf s .event)
 

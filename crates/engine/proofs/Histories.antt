@@ -65,7 +65,7 @@ pub record Within (lines : ℕ) (h : History) (e : Event) : Type 0 where
 
 -- every accepted event is one
 pub accepted-within : (lines : ℕ) (h : History) (r : Record) → Accepted lines h r → Within lines h (r .event)
-accepted-within lines h r (NoneBroken.cons a (NoneBroken.cons b c)) = record { number = leb-false 65535 (length h) b; ranges = a }
+accepted-within lines h r (NoneBroken.cons a (NoneBroken.cons s (NoneBroken.cons b c))) = record { number = leb-false 65535 (length h) b; ranges = a }
 
 -- the stores of a list of accepted events lie in the window
 pub taken-inside : {lines : ℕ} {h : History} → Taken lines h → Inside lines h

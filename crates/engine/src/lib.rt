@@ -65,7 +65,7 @@ pub fn fresh(lines: u16) -> Window
     }
 }
 
-// An event given to a run: refused by the first of 9 to 12 that applies, and the run as it was, or its finding and the next run.
+// An event given to a run: refused by the first of 9, 18, 10 to 12 that applies, and the run as it was, or its finding and the next run.
 pub fn give(run: Run, r: Record) -> Given
     ensures { λ g. ⌜ g ≡ giveOf run r ⌝ }
 {

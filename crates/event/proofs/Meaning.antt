@@ -1,4 +1,4 @@
--- The refusals bear the paper's numbers: 1 to 17 without 8, in the order in which they are declared.
+-- The refusals bear the paper's numbers: 1 to 18 without 8, in the order in which they are declared.
 -- Assumes nothing.
 use mathlib.Core.Path.{_≡_, refl}
 use mathlib.Core.Logic.{_≢_}
@@ -8,14 +8,14 @@ use Prim.Native.Nat.{ℕ}
 use Rattle.event.specs.declared.NamedInterval.the-variants.{None as NoneNamed, Open as OpenNamed, Closed as ClosedNamed}
 use Rattle.event.specs.Reply.{intervalValues, namedValues, withoutEvents}
 use Rattle.event.specs.declared.Refusal.{Refusal}
-use Rattle.event.specs.declared.Refusal.the-variants.{TraceTooShort, TraceTooLong, MarkDiffers, BadLines, LengthDiffers, UnknownKind, FieldSet, PastWindow, EventsExhausted, NoTransaction, TooDeep, TransactionOpen, AreaTooShort, FileAreaTooShort, PageAreaTooShort, NoByteClosed}
+use Rattle.event.specs.declared.Refusal.the-variants.{TraceTooShort, TraceTooLong, MarkDiffers, BadLines, LengthDiffers, UnknownKind, FieldSet, PastWindow, EventsExhausted, NoTransaction, TooDeep, TransactionOpen, AreaTooShort, FileAreaTooShort, PageAreaTooShort, NoByteClosed, SharedByte}
 use Rattle.event.specs.Numbers.{numberOf}
 
 pub refusals-numbered :
     map numberOf
     (TraceTooShort ∷ TraceTooLong ∷ MarkDiffers ∷ BadLines ∷ LengthDiffers ∷ UnknownKind ∷ FieldSet ∷ PastWindow ∷
-    EventsExhausted ∷ NoTransaction ∷ TooDeep ∷ TransactionOpen ∷ AreaTooShort ∷ FileAreaTooShort ∷ PageAreaTooShort ∷ NoByteClosed ∷ []) ≡
-    1 ∷ 2 ∷ 3 ∷ 4 ∷ 5 ∷ 6 ∷ 7 ∷ 9 ∷ 10 ∷ 11 ∷ 12 ∷ 13 ∷ 14 ∷ 15 ∷ 16 ∷ 17 ∷ []
+    EventsExhausted ∷ NoTransaction ∷ TooDeep ∷ TransactionOpen ∷ AreaTooShort ∷ FileAreaTooShort ∷ PageAreaTooShort ∷ NoByteClosed ∷ SharedByte ∷ []) ≡
+    1 ∷ 2 ∷ 3 ∷ 4 ∷ 5 ∷ 6 ∷ 7 ∷ 9 ∷ 10 ∷ 11 ∷ 12 ∷ 13 ∷ 14 ∷ 15 ∷ 16 ∷ 17 ∷ 18 ∷ []
 refusals-numbered = refl
 
 -- none has the number 8
@@ -36,6 +36,7 @@ no-eight AreaTooShort e = omega (arith, e)
 no-eight FileAreaTooShort e = omega (arith, e)
 no-eight PageAreaTooShort e = omega (arith, e)
 no-eight NoByteClosed e = omega (arith, e)
+no-eight SharedByte e = omega (arith, e)
 
 -- the answer of a byte asked: nothing; the epoch, the last store and the write-back; both epochs, the last store, the write-back and the fence
 pub named-numbered : (opened closed store back fence : ℕ) →

@@ -8,7 +8,7 @@ use Rattle.event.specs.declared.Finding.{Finding}
 use Rattle.event.specs.declared.Finding.the-variants.{None, Holds, Lost, OutOfOrder, Unlogged, Clean, WrittenTwice, LoggedTwice, Empty}
 use Rattle.event.specs.declared.Fields.{Fields}
 use Rattle.event.specs.declared.Refusal.{Refusal}
-use Rattle.event.specs.declared.Refusal.the-variants.{TraceTooShort, TraceTooLong, MarkDiffers, BadLines, LengthDiffers, UnknownKind, FieldSet, PastWindow, EventsExhausted, NoTransaction, TooDeep, TransactionOpen, AreaTooShort, FileAreaTooShort, PageAreaTooShort, NoByteClosed}
+use Rattle.event.specs.declared.Refusal.the-variants.{TraceTooShort, TraceTooLong, MarkDiffers, BadLines, LengthDiffers, UnknownKind, FieldSet, PastWindow, EventsExhausted, NoTransaction, TooDeep, TransactionOpen, AreaTooShort, FileAreaTooShort, PageAreaTooShort, NoByteClosed, SharedByte}
 
 abbrev pub kindOf : Event → ℕ
 kindOf (Store a) = 1
@@ -57,3 +57,4 @@ numberOf AreaTooShort = 14
 numberOf FileAreaTooShort = 15
 numberOf PageAreaTooShort = 16
 numberOf NoByteClosed = 17
+numberOf SharedByte = 18

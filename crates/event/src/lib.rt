@@ -64,7 +64,7 @@ pub struct Fields {
     pub store: u16,
 }
 
-// The sixteen reasons for a refusal, in the order of their numbers; none has the number 8.
+// The seventeen reasons for a refusal, in the order of their numbers; none has the number 8.
 pub enum Refusal {
     TraceTooShort,
     TraceTooLong,
@@ -82,6 +82,7 @@ pub enum Refusal {
     FileAreaTooShort,
     PageAreaTooShort,
     NoByteClosed,
+    SharedByte,
 }
 
 // What a check of the limits says.

@@ -75,7 +75,7 @@ pub fn fields(f: Finding) -> Fields
     }
 }
 
-// A refusal's number, 1 to 17 without 8.
+// A refusal's number, 1 to 18 without 8.
 pub fn number(r: Refusal) -> u8
     ensures { λ n. ⌜ n ≡ numberOf r ⌝ }
 {
@@ -96,5 +96,6 @@ pub fn number(r: Refusal) -> u8
         Refusal::FileAreaTooShort => 15,
         Refusal::PageAreaTooShort => 16,
         Refusal::NoByteClosed => 17,
+        Refusal::SharedByte => 18,
     }
 }

@@ -311,8 +311,8 @@ fn accept(
     }
 }
 
-// Refused by the first of 9 to 12 that applies, with numbers and tables as they were; or the finding, and the numbers and tables
-// after the event.
+// Refused by the first of 9, 18, 10 to 12 that applies, with numbers and tables as they were; or the finding, and the numbers and
+// tables after the event.
 pub fn step(
     counts: Counts,
     stored: &mut [u16; 4096],

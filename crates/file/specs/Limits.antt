@@ -34,7 +34,7 @@ startLimits room preamble lines =
 abbrev pub writeLimits : (room at : ℕ) → View → Event → List Limit
 writeLimits room at v e =
     lengthLimit (at + recordSize) ∷  -- 2
-    limitsBy v e ++  -- 9, 10, 11, 12
+    limitsBy v e ++  -- 9, 18, 10, 11, 12
     roomLimit room (at + recordSize) ∷  -- 15
     []
 
@@ -43,7 +43,7 @@ abbrev pub bytesLimits : (room at : ℕ) → View → List ℕ → List Limit
 bytesLimits room at v s =
     lengthLimit (at + recordSize) ∷  -- 2
     readLimits s ++  -- 6, 7
-    limitsBy v (recordOf s .event) ++  -- 9, 10, 11, 12
+    limitsBy v (recordOf s .event) ++  -- 9, 18, 10, 11, 12
     roomLimit room (at + recordSize) ∷  -- 15
     []
 

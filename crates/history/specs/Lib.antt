@@ -9,7 +9,7 @@ pub mod Assertion  -- the claims of holds, lost and out of order
 pub mod Warning  -- the claims of the warnings
 pub mod Claim  -- the claim of each event's finding
 pub mod View  -- what a judge asks of a run, read off a history
-pub mod Refused  -- the refusals 9 to 12
+pub mod Refused  -- the refusals 9, 18 and 10 to 12
 pub mod Found  -- the finding of an event, computed
 pub mod ByEpochs  -- its tests on intervals, by their epochs
 pub mod Given  -- events given one after another, and the claim over the whole list

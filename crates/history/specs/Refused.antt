@@ -6,11 +6,11 @@ use Prim.Native.Nat.{ℕ}
 use lib.Dec.{leb, eqb}
 use Rattle.event.specs.declared.Event.{Event}
 use Rattle.event.specs.declared.Refusal.{Refusal}
-use Rattle.event.specs.declared.Refusal.the-variants.{PastWindow, EventsExhausted, NoTransaction, TooDeep}
+use Rattle.event.specs.declared.Refusal.the-variants.{PastWindow, SharedByte, EventsExhausted, NoTransaction, TooDeep}
 use Rattle.event.specs.declared.Check.{Check}
 use Rattle.event.specs.declared.Check.the-variants.{Passed, Refused}
 use Rattle.event.specs.Numbers.{numberOf}
-use Rattle.window.specs.Window.{isPast, rangesOf, anyRange}
+use Rattle.window.specs.Window.{isPast, rangesOf, anyRange, rangesShare}
 use Rattle.history.specs.History.{begins, logs, ends}
 use Rattle.history.specs.View.{View}
 
@@ -38,6 +38,7 @@ limit broken number = record { broken = broken; number = number }
 abbrev pub limitsBy : View → Event → List Limit
 limitsBy v e =
     limit (anyRange (isPast (v .lines)) (rangesOf e)) PastWindow ∷  -- 9 a used range runs past the window
+    limit (rangesShare e) SharedByte ∷  -- 18 A and B share a byte
     limit (leb mostEvents (v .events)) EventsExhausted ∷  -- 10 65,535 events already taken
     limit (asksOpen e && eqb (v .depth) 0) NoTransaction ∷  -- 11 log or end with no transaction open
     limit (begins e && leb mostDepth (v .depth)) TooDeep ∷  -- 12 begin at depth 8

@@ -18,9 +18,9 @@ module _ (lines events depth : ℕ) (e : Event) where
   -- where the first refuses
   pub range-refused : {x : Refusal} → rangeCheck lines e ≡ Refused x → Refused x ≡ refusalBy (numbersOf lines events depth) e
   unfolding refusalBy
-  range-refused k = part-refused (take 1 limits) (drop 1 limits) k
+  range-refused k = part-refused (take 2 limits) (drop 2 limits) k
 
   -- where it passes
   pub range-passed : rangeCheck lines e ≡ Passed → stateCheck events depth e ≡ refusalBy (numbersOf lines events depth) e
   unfolding refusalBy
-  range-passed k = part-passed (take 1 limits) (drop 1 limits) k refl
+  range-passed k = part-passed (take 2 limits) (drop 2 limits) k refl

@@ -37,7 +37,7 @@ module _ (lines events depth : ℕ) where
   passed e k = go (passed-unbroken (limitsBy (numbersOf lines events depth) e) k)
     where
       go : NoneBroken (limitsBy (numbersOf lines events depth) e) → Passes lines events depth e
-      go (NoneBroken.cons a (NoneBroken.cons b (NoneBroken.cons c (NoneBroken.cons d e)))) =
+      go (NoneBroken.cons a (NoneBroken.cons s (NoneBroken.cons b (NoneBroken.cons c (NoneBroken.cons d e))))) =
           record { room = leb-false 65535 events b; ranges = a; inside = c; nests = d }
 
   -- a begin that passes is at a depth below 8

@@ -1,4 +1,4 @@
--- The limits 9 to 12 ask for three numbers of a run: the window's lines, the events taken and the transactions open.
+-- The limits 9, 18 and 10 to 12 ask for three numbers of a run: the window's lines, the events taken and the transactions open.
 use mathlib.Core.Bool.{false}
 use Prim.Native.Nat.{ℕ}
 use lib.ListN.{drop}
@@ -27,4 +27,4 @@ numbersOf lines events depth =
 
 -- the limits that do not ask for an event's ranges: 10, 11 and 12
 abbrev pub stateCheck : (events depth : ℕ) → Event → Check
-stateCheck events depth e = firstBroken (drop 1 (limitsBy (numbersOf 0 events depth) e))
+stateCheck events depth e = firstBroken (drop 2 (limitsBy (numbersOf 0 events depth) e))

@@ -1,4 +1,4 @@
-// The limits 9 to 12 on an event that is given to a run, by the numbers of the run that they ask for.
+// The limits 9, 18 and 10 to 12 on an event that is given to a run, by the numbers of the run that they ask for.
 use event::Check;
 use event::Event;
 use event::Refusal;
@@ -49,7 +49,7 @@ fn check_state(events: u16, depth: u16, e: Event) -> Check
     }
 }
 
-// The first of the limits 9 to 12 that an event breaks, in a window of so many lines, after so many events, with so many
+// The first of the limits 9, 18 and 10 to 12 that an event breaks, in a window of so many lines, after so many events, with so many
 // transactions open.
 pub fn check_event(lines: u16, events: u16, depth: u16, e: Event) -> Check
     ensures { λ c. ⌜ c ≡ refusalBy (numbersOf lines events depth) e ⌝ }

@@ -28,8 +28,8 @@ abbrev pub unlessBroken : Check → ℕ → TraceCheck → TraceCheck
 unlessBroken Fits n rest = rest
 unlessBroken (Breaks x) n rest = Refused x n
 
--- the records from number n on, after the history: the first that is refused, by 6 or 7 from its bytes or by 9 to 12 from its event,
--- and its number; else 13 if a transaction is open then, with the number 0
+-- the records from number n on, after the history: the first that is refused, by 6 or 7 from its bytes or by 9, 18, 10 to 12 from its
+-- event, and its number; else 13 if a transaction is open then, with the number 0
 unfoldable pub checkFrom : (lines n : ℕ) → History → List Parsed → TraceCheck
 checkFrom lines n h [] = cond (eqb (depth h) 0) Passed (Refused TransactionOpen 0)
 checkFrom lines n h (Unread x ∷ rest) = Refused x n

@@ -18,7 +18,7 @@ use Rattle.pass.specs.Pass.{Result}
 use Rattle.trace_exposure.specs.declared.TraceExposure.{TraceExposure}
 use Rattle.trace_exposure.specs.declared.TraceExposure.the-variants.{Refused, Mean}
 
--- what refuses the trace, if anything does: 1, 2, 3, 4, 5, with the number 0; then 6, 7, 9 to 12, record by record; then 13
+-- what refuses the trace, if anything does: 1, 2, 3, 4, 5, with the number 0; then 6, 7, 9, 18, 10 to 12, record by record; then 13
 abbrev pub fileCheck : List ℕ → TraceCheck
 fileCheck trace = unlessBroken (firstBroken (fileLimits trace)) 0 (checkAll (linesIn trace) (recordsIn trace))
 

@@ -92,9 +92,9 @@ fn print_count(words: &[u8], n: u32) {
     io::write_all(STDOUT_FILENO, b"\n");
 }
 
-// `refused by 9 135`; nothing for 8, which nothing is refused by.
+// `refused by 9 135`; nothing for 8 and for 15 to 17, which no trace is refused by.
 fn print_refused(number: u8, n: u32) {
-    if number == 8 {
+    if number == 8 || (14 < number && number < 18) {
         return;
     }
     io::write_all(STDOUT_FILENO, b"refused by ");
@@ -103,10 +103,10 @@ fn print_refused(number: u8, n: u32) {
 }
 
 // How many traces were accepted, and how many refused by each number.
-fn print_answers(answers: &[u32; 15]) {
+fn print_answers(answers: &[u32; 19]) {
     print_count(b"accepted", answers[0]);
     let mut i: u8 = 1;
-    while i < 15 {
+    while i < 19 {
         print_refused(i, answers[i as usize]);
         i += 1;
     }
@@ -124,7 +124,7 @@ fn print_kinds(kinds: &[u32; 9]) {
 }
 
 fn main() {
-    let mut answers = [0u32; 15];
+    let mut answers = [0u32; 19];
     let mut kinds = [0u32; 9];
     let mut traces: u16 = 0;
     let mut differ: u16 = 0;

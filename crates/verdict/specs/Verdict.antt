@@ -35,7 +35,7 @@ areaLimits trace area = limit (ltb (length area) (areaSize trace)) AreaTooShort 
 abbrev pub traceLimits : (trace area : List ℕ) → List Limit
 traceLimits trace area = fileLimits trace ++ areaLimits trace area
 
--- what refuses the trace, if anything does: these, with the number 0; then 6, 7, 9 to 12, record by record; then 13
+-- what refuses the trace, if anything does: these, with the number 0; then 6, 7, 9, 18, 10 to 12, record by record; then 13
 abbrev pub traceCheck : (trace area : List ℕ) → TraceCheck
 traceCheck trace area = unlessBroken (firstBroken (traceLimits trace area)) 0 (checkAll (linesIn trace) (recordsIn trace))
 

@@ -2,13 +2,14 @@
 -- Assumes nothing.
 use mathlib.Core.Path.{_≡_, refl}
 use mathlib.Core.Bool.{Bool, true, false, not, _&&_}
-use mathlib.Core.Logic.{_≢_}
+use mathlib.Core.Logic.{_≢_, _⊎_, inl, inr}
+use mathlib.Core.List.{[], _∷_}
 use Prim.Native.Nat.{ℕ, _+_, _*_, _-_, _≤_, _<_, max}
 use native.Mathlib.Omega.{arith}
 use lib.Dec.{leb, ltb}
 use borrow.Author.Tests.{not-true, eqb-false, eq-eqb, ne-eqb, leb-true, le-leb, ltb-true, ltb-false, lt-ltb}
 use Rattle.event.specs.declared.Range.{Range}
-use Rattle.window.specs.Window.{mostLines, windowBytes, lineOf, wordBytes, wordOf, lineStart, rangeEnd, covers, isEmpty, touches, lineCount, isPast}
+use Rattle.window.specs.Window.{mostLines, windowBytes, lineOf, wordBytes, wordOf, lineStart, rangeEnd, covers, isEmpty, touches, lineCount, isPast, sharesByte}
 use Rattle.event.proofs.Bools.{contradiction, fails, fails-not, not-of, and-left, and-right, both}
 
 -- A range covers the bytes from its address on that lie before its end.
@@ -87,6 +88,48 @@ covers-some r byte e = not-of (ne-eqb (r .length) 0 (λ z. contradiction e (empt
 
 pub covers-first : (r : Range) → r .length ≢ 0 → covers r (r .address) ≡ true
 covers-first r n = covering r (r .address) (omega arith) (omega (arith, n))
+
+-- Neighbours share no byte; a shared edge, either way round, a part and the range itself do; a range of no bytes inside the other does not.
+abbrev sharing : (a aLength b bLength : ℕ) → Bool
+sharing a aLength b bLength = sharesByte (record { address = a; length = aLength }) (record { address = b; length = bLength })
+
+pub worked-shares :
+    (sharing 0 8 8 8 ∷ sharing 8 8 0 8 ∷ sharing 0 8 7 8 ∷ sharing 7 8 0 8 ∷ sharing 0 8 2 3 ∷ sharing 0 8 0 8 ∷ sharing 4 0 0 8 ∷ sharing 0 8 4 0 ∷ []) ≡
+    false ∷ false ∷ true ∷ true ∷ true ∷ true ∷ false ∷ false ∷ []
+worked-shares = refl
+
+-- Two ranges share a byte exactly if both cover one.
+pub shared-byte : (a b : Range) → sharesByte a b ≡ true → (byte : ℕ) × (covers a byte ≡ true) × (covers b byte ≡ true)
+shared-byte a b e =
+    let before = ltb (a .address) (rangeEnd b) in
+    let behind = ltb (b .address) (rangeEnd a) in
+    let some = not (isEmpty a) && not (isEmpty b) in
+    let first = and-left (some && before) behind e in
+    let long = and-left some before first in
+    let a-some = eqb-false (a .length) 0 (not-true (isEmpty a) (and-left (not (isEmpty a)) (not (isEmpty b)) long)) in
+    let b-some = eqb-false (b .length) 0 (not-true (isEmpty b) (and-right (not (isEmpty a)) (not (isEmpty b)) long)) in
+    let a-before = ltb-true (a .address) (rangeEnd b) (and-right some before first) in
+    let b-before = ltb-true (b .address) (rangeEnd a) (and-right (some && before) behind e) in
+    let byte : ℕ = max (a .address) (b .address) in (
+      byte,
+      covering a byte (omega arith) (omega (arith, a-some, b-before)),
+      covering b byte (omega arith) (omega (arith, b-some, a-before)),
+    )
+
+pub byte-shared : (a b : Range) (byte : ℕ) → covers a byte ≡ true → covers b byte ≡ true → sharesByte a b ≡ true
+byte-shared a b byte e f =
+    let x : Covered a byte = covered a byte e in
+    let y : Covered b byte = covered b byte f in
+    both (both (both (covers-some a byte e) (covers-some b byte f)) (lt-ltb (a .address) (rangeEnd b) (omega (arith, x .from, y .to))))
+    (lt-ltb (b .address) (rangeEnd a) (omega (arith, y .from, x .to)))
+
+-- A range of length 0 shares no byte, wherever its address is.
+pub empty-shares : (a b : Range) → (a .length ≡ 0) ⊎ (b .length ≡ 0) → sharesByte a b ≡ false
+empty-shares a b z = fails (sharesByte a b) (λ e. go z (shared-byte a b e))
+  where
+    go : (a .length ≡ 0) ⊎ (b .length ≡ 0) → (byte : ℕ) × (covers a byte ≡ true) × (covers b byte ≡ true) → ⊥
+    go (inl k) x = contradiction (x .1) (empty-covers a (x .0) k)
+    go (inr k) x = contradiction (x .2) (empty-covers b (x .0) k)
 
 -- A line starts at its first byte.
 pub line-start-is-first : (line : ℕ) → line < 64 → (lineOf (lineStart line) ≡ line) × ((byte : ℕ) → lineOf byte ≡ line → lineStart line ≤ byte)

@@ -1,4 +1,5 @@
--- The window: its size, its lines and words, what a range covers and which lines it touches, and the limits 4 and 9.
+-- The window: its size, its lines and words, what a range covers and which lines it touches, whether two ranges share a
+-- byte, and the limits 4, 9 and 18.
 use mathlib.Core.Bool.{Bool, false, cond, not, _&&_, _||_}
 use mathlib.Core.List.{List, [], _∷_}
 use Prim.Native.Nat.{ℕ, _+_, _*_, _/_, _-_}
@@ -6,7 +7,7 @@ use lib.Dec.{leb, ltb, eqb}
 use Rattle.event.specs.declared.Range.{Range}
 use Rattle.event.specs.declared.Event.{Event}
 use Rattle.event.specs.declared.Event.the-variants.{Store, WriteBack, Fence, Begin, Log, End, Persisted, Ordered}
-use Rattle.event.specs.declared.Refusal.the-variants.{BadLines, PastWindow}
+use Rattle.event.specs.declared.Refusal.the-variants.{BadLines, PastWindow, SharedByte}
 use Rattle.event.specs.declared.Check.{Check}
 use Rattle.event.specs.declared.Check.the-variants.{Passed, Refused}
 
@@ -77,9 +78,24 @@ abbrev pub anyRange : (Range → Bool) → List Range → Bool
 anyRange p [] = false
 anyRange p (r ∷ rs) = p r || anyRange p rs
 
--- 9: a used range runs past the window
+-- two ranges share a byte: neither is empty, and each starts before the end of the other
+abbrev pub sharesByte : Range → Range → Bool
+sharesByte a b = not (isEmpty a) && not (isEmpty b) && ltb (a .address) (rangeEnd b) && ltb (b .address) (rangeEnd a)
+
+-- the event is an ordered whose A and B share a byte
+abbrev pub rangesShare : Event → Bool
+rangesShare (Store a) = false
+rangesShare (WriteBack a) = false
+rangesShare Fence = false
+rangesShare Begin = false
+rangesShare (Log a) = false
+rangesShare End = false
+rangesShare (Persisted a) = false
+rangesShare (Ordered a b) = sharesByte a b
+
+-- 9: a used range runs past the window; then 18: A and B share a byte
 abbrev pub rangeCheck : ℕ → Event → Check
-rangeCheck lines e = cond (anyRange (isPast lines) (rangesOf e)) (Refused PastWindow) Passed
+rangeCheck lines e = cond (anyRange (isPast lines) (rangesOf e)) (Refused PastWindow) (cond (rangesShare e) (Refused SharedByte) Passed)
 
 -- lines outside 1 to 64
 abbrev pub badLines : ℕ → Bool

@@ -1,10 +1,10 @@
-// The window: its size, its lines, how many of them a range touches, and the limits 4 and 9.
+// The window: its size, its lines, how many of them a range touches, whether two ranges share a byte, and the limits 4, 9 and 18.
 use event::Check;
 use event::Event;
 use event::Range;
 use event::Refusal;
 ghost use mathlib.Core.Path.{_≡_};
-ghost use Rattle.window.specs.Window.{windowBytes, lineOf, lineStart, rangeEnd, isEmpty, lineCount, isPast, rangesOf, anyRange, rangeCheck, linesCheck};
+ghost use Rattle.window.specs.Window.{windowBytes, lineOf, lineStart, rangeEnd, isEmpty, lineCount, isPast, rangesOf, anyRange, sharesByte, rangesShare, rangeCheck, linesCheck};
 
 // The start address of a line: 64 times its number, and 0 beyond the largest window.
 pub fn line_start(line: u16) -> u16
@@ -75,12 +75,38 @@ fn any_past(lines: u16, e: Event) -> bool
     }
 }
 
-// The limit 9 on the ranges that an event uses.
+// Whether two ranges share a byte.
+fn shares_byte(a: Range, b: Range) -> bool
+    ensures { λ t. ⌜ t ≡ sharesByte a b ⌝ }
+{
+    let some = !is_empty(a) & !is_empty(b);
+    some & ((a.address as u32) < range_end(b)) & ((b.address as u32) < range_end(a))
+}
+
+// Whether the event is an ordered whose A and B share a byte.
+fn ranges_share(e: Event) -> bool
+    ensures { λ t. ⌜ t ≡ rangesShare e ⌝ }
+{
+    match e {
+        Event::Ordered(a, b) => shares_byte(a, b),
+        Event::Store(_) => false,
+        Event::WriteBack(_) => false,
+        Event::Fence => false,
+        Event::Begin => false,
+        Event::Log(_) => false,
+        Event::End => false,
+        Event::Persisted(_) => false,
+    }
+}
+
+// The limits 9 and 18 on the ranges that an event uses.
 pub fn check_ranges(lines: u16, e: Event) -> Check
     ensures { λ c. ⌜ c ≡ rangeCheck lines e ⌝ }
 {
     if any_past(lines, e) {
         Check::Refused(Refusal::PastWindow)
+    } else if ranges_share(e) {
+        Check::Refused(Refusal::SharedByte)
     } else {
         Check::Passed
     }

@@ -87,7 +87,7 @@ fn is_full(w: Writer) -> bool
     is_too_long(records_end(w) + 12)
 }
 
-// The limits on an event: 2; 9 to 12; 15.
+// The limits on an event: 2; 9, 18, 10 to 12; 15.
 fn check_write(room: usize, w: Writer, e: Event) -> Check
     ensures { λ c. ⌜ c ≡ writeCheck room w e ⌝ }
 {
@@ -130,7 +130,7 @@ fn next(w: Writer, e: Event) -> Writer
     }
 }
 
-// Writes an event: its record goes behind the last one. Refused by the first of 2, 9, 10, 11, 12, 15 that applies, and writer and
+// Writes an event: its record goes behind the last one. Refused by the first of 2, 9, 18, 10, 11, 12, 15 that applies, and writer and
 // area as they were.
 pub fn write(area: &mut [u8], w: Writer, r: Record) -> Written
     ensures { λ x. ⌜ x ≡ writtenOf (now (area .entry)) w r ⌝ }

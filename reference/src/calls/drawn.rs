@@ -17,6 +17,9 @@ const NO_BYTES_RUNS: usize = 10;
 const NO_BYTES_EVENTS: usize = 12;
 /// How many of 100 ranges have no byte in those runs.
 const NO_BYTES: usize = 40;
+const SHARED_SEED: u64 = 205;
+const SHARED_RUNS: usize = 10;
+const SHARED_EVENTS: usize = 12;
 /// Windows beside those of 1, 2, 63 and 64 lines.
 const OTHER: [u16; 8] = [3, 4, 5, 8, 16, 31, 32, 62];
 /// Windows that are refused; the low bytes of some would be taken.
@@ -103,6 +106,21 @@ pub(super) fn no_bytes_cases() -> Vec<Case> {
     (0..NO_BYTES_RUNS).map(run).collect()
 }
 
+/// Runs with many orders between ranges that share a byte, or touch, and bytes asked between them.
+pub(super) fn shared_cases() -> Vec<Case> {
+    let mut random = Random::new(SHARED_SEED);
+    let run = |number| {
+        let lines = window(&mut random, number);
+        let mut drawer = Drawer::new(&mut random, lines);
+        drawer.draw_shared();
+        Case {
+            group: "shared random",
+            calls: drawer.calls,
+        }
+    };
+    (0..SHARED_RUNS).map(run).collect()
+}
+
 /// Events for a window of so many lines, with some that may be refused among them.
 pub(super) fn events(random: &mut Random, lines: u16) -> Vec<Event> {
     let mut drawer = Drawer::new(random, lines);
@@ -180,6 +198,26 @@ impl Drawer<'_> {
             self.give(event);
             if self.random.chance(1, 8) {
                 self.calls.push(Call::Exposure);
+            }
+        }
+        self.calls.push(Call::Close);
+    }
+
+    /// Behind many events with a range, an order between it and one near it.
+    fn draw_shared(&mut self) {
+        let shape = Shape {
+            events: SHARED_EVENTS,
+            ..self.shape()
+        };
+        for record in random::events(self.random, &shape) {
+            self.give(record.event);
+            match record.event.range_a() {
+                Some(a) if self.random.chance(2, 3) => {
+                    let other = random::near(self.random, a);
+                    let (a, b) = self.random.pick(&[(a, other), (other, a)]);
+                    self.give(Event::Ordered(a, b));
+                }
+                _ => {}
             }
         }
         self.calls.push(Call::Close);
@@ -346,10 +384,11 @@ impl Drawer<'_> {
     /// Events that may be refused, to stand behind this one.
     fn odd_events(&mut self, shape: &Shape, before: Event) -> Vec<Event> {
         let times = self.random.pick(&[1, 2, 3, 5, 9]);
-        match (self.random.below(8), before.range_a()) {
+        match (self.random.below(9), before.range_a()) {
             (0, _) => vec![Event::Begin; times],
             (1, _) => vec![Event::End; times],
             (2, Some(a)) => vec![Event::Log(a); times.min(2)],
+            (3, Some(a)) => vec![Event::Ordered(a, random::near(self.random, a))],
             _ => vec![self.event_at_the_end(shape)],
         }
     }

@@ -10,6 +10,7 @@ mod count;
 mod drawn;
 mod exposures;
 mod no_bytes;
+mod shared;
 mod writer_drawn;
 mod writer_written;
 mod writing;
@@ -79,6 +80,8 @@ impl Calls {
         cases.extend(drawn::exposure_cases());
         cases.extend(no_bytes::cases());
         cases.extend(drawn::no_bytes_cases());
+        cases.extend(shared::cases());
+        cases.extend(drawn::shared_cases());
         cases.extend(writer_written::cases());
         cases.extend(writer_drawn::cases());
         let entries = cases.into_iter().map(entry).collect::<Result<_, _>>()?;

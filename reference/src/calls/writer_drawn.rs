@@ -4,7 +4,7 @@
 use super::writing::Writing;
 use super::{drawn, Call, Case};
 use crate::event::{Event, Record, MAX_LINES};
-use crate::random::Random;
+use crate::random::{self, Random};
 use crate::trace::{self, MAX_TRACE, RECORD, TRAILER};
 
 const SEED: u64 = 202;
@@ -119,6 +119,10 @@ impl Drawer<'_> {
             self.call(Call::Write(damaged));
         }
         self.call(Call::Write(record));
+        if let (Some(a), true) = (event.range_a(), self.random.chance(1, 10)) {
+            let event = Event::Ordered(a, random::near(self.random, a));
+            self.call(Call::Write(trace::encode(&Record { event, site })));
+        }
         if self.random.chance(1, 7) {
             self.call(Call::Finish);
         }

@@ -20,6 +20,7 @@ pub(super) fn cases() -> Vec<Case> {
     add("writer preambles", PREAMBLES.map(String::from).to_vec());
     add("writer numbers", numbers());
     add("writer no bytes", NO_BYTES.map(String::from).to_vec());
+    add("writer shared", shared());
     cases.extend(records());
     cases
 }
@@ -85,7 +86,7 @@ fn lines() -> Vec<String> {
             "area 66; preamble 2 from 250; start {lines}; write store {last}/1;
             write store {window}/1; write write-back 0/{window}; write log 0/{past}; write fence;
             write persisted 0/{past}; write ordered {last}/1 before {window}/1;
-            write ordered {window}/1 before {last}/1; write ordered {last}/1 before 0/{window};
+            write ordered {window}/1 before {last}/1; write ordered {last}/1 before 0/{last};
             finish"
         ));
     }
@@ -287,7 +288,7 @@ const WINDOWS: &str = "area 60; writer 0 0 0 0; write store 1/0; write store 0/1
     finish; writer 65 0 0 0; write store 4159/1; write store 4160/1; writer 1023 0 0 0;
     write store 65471/1; write store 65472/1; writer 1024 0 0 0; write store 65535/1;
     write store 65535/2; writer 2047 0 0 0; write store 65535/65535; writer 2048 0 0 0;
-    write store 65535/65535; writer 65535 0 0 0; write ordered 65535/65535 before 65535/65535;
+    write store 65535/65535; writer 65535 0 0 0; write ordered 65535/65535 before 0/65535;
     finish; writer 32768 0 0 0; write persisted 0/65535; finish";
 
 /// Offsets and counts at the end of the longest file and of the area.
@@ -339,6 +340,54 @@ const NO_BYTES: [&str; 8] = [
     writer 65 0 0 0; write store 4160/0; write store 4161/0; writer 1024 0 0 0;
     write store 65535/0; writer 1023 0 0 0; write store 65472/0; write store 65473/0;
     writer 65535 0 0 0; write store 65535/0; finish",
+];
+
+// Orders between ranges that share a byte, or touch, or have none.
+
+fn shared() -> Vec<String> {
+    let (begins, ends) = (repeat("write begin", 8), repeat("write end", 8));
+    let mut runs = SHARED.map(String::from).to_vec();
+    // Between events refused by 11 and 12.
+    runs.push(format!(
+        "area 210; preamble 1 from 7; start 2; write end; write ordered 0/8 before 0/8; {begins};
+        write ordered 0/8 before 0/8; write begin; finish; {ends}; write ordered 0/8 before 0/8;
+        finish"
+    ));
+    runs
+}
+
+const SHARED: [&str; 7] = [
+    // Ranges that share bytes, and ranges that touch.
+    "area 60; preamble 2 from 1; start 2; write ordered 0/8 before 0/8; write ordered 0/8 before 7/8;
+    write ordered 7/8 before 0/8; write ordered 0/8 before 8/8; write ordered 120/8 before 127/1;
+    write ordered 8/8 before 0/8; finish",
+    // No bytes inside the other range, and twice at one address.
+    "area 60; preamble 0 from 0; start 2; write ordered 4/0 before 0/8; write ordered 0/8 before 4/0;
+    write ordered 4/0 before 4/0; finish",
+    // 6, 7 and 9 before it.
+    "area 60; preamble 0 from 0; start 2; write record 09 00 00 00 08 00 00 00 08 00 00 00;
+    write record 08 01 00 00 08 00 00 00 08 00 00 00;
+    write record 07 00 00 00 08 00 00 00 08 00 00 00; write ordered 121/8 before 121/8;
+    write ordered 120/8 before 120/9; write ordered 0/129 before 0/8; write ordered 128/8 before 128/8;
+    write ordered 120/8 before 120/8; write fence; finish",
+    // 2 before it.
+    "area 65536; preamble 65509 from 3; start 2; write ordered 0/8 before 0/8;
+    write ordered 0/8 before 8/8; finish",
+    // 15 behind it.
+    "area 11; preamble 0 from 0; start 2; write ordered 0/8 before 0/8; write ordered 0/8 before 8/8;
+    write ordered 4/0 before 0/8; finish",
+    // Behind a closing: the trailer stays, and the next record takes its place.
+    "area 60; preamble 0 from 0; start 2; write store 0/8; finish; write ordered 0/8 before 0/8;
+    finish; write ordered 0/8 before 8/8; finish",
+    // Writers of any numbers.
+    "area 60; writer 0 0 0 0; write ordered 0/0 before 0/0; write ordered 0/1 before 0/1;
+    writer 65 0 0 0; write ordered 4152/8 before 4159/1; write ordered 4152/8 before 4160/0;
+    writer 1024 0 0 0; write ordered 65535/1 before 65535/1; write ordered 65534/1 before 65535/1;
+    writer 65535 0 0 0; write ordered 65535/65535 before 65535/65535;
+    write ordered 0/65535 before 65534/1; write ordered 65534/65535 before 65535/1;
+    write ordered 65535/65535 before 0/65535; writer 2 4294967295 65535 0;
+    write ordered 0/8 before 0/8; writer 2 0 5459 0; write ordered 0/8 before 0/8;
+    write ordered 0/8 before 8/8; writer 2 0 5460 0; write ordered 0/8 before 0/8",
 ];
 
 // Records: every kind of event, every kind that is unknown, and every field set.

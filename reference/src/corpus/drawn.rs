@@ -17,6 +17,7 @@ pub(super) fn add(cases: &mut Cases) {
     long(cases);
     torn(cases);
     no_bytes(cases);
+    shared(cases);
 }
 
 fn small(cases: &mut Cases) {
@@ -147,9 +148,9 @@ fn many_fences() -> Vec<Record> {
         let site = number as u16;
         records.push(Record { event, site });
     }
-    let whole = Range::new(0, 4096);
-    records[MOST - 2].event = Event::Ordered(whole, whole);
-    records[MOST - 1].event = Event::Persisted(whole);
+    let halves = [Range::new(0, 2048), Range::new(2048, 2048)];
+    records[MOST - 2].event = Event::Ordered(halves[0], halves[1]);
+    records[MOST - 1].event = Event::Persisted(Range::new(0, 4096));
     records
 }
 
@@ -164,7 +165,7 @@ fn last_refused(cases: &mut Cases, mut records: Vec<Record>) {
 /// Stores of several words, and orders between their parts.
 fn torn(cases: &mut Cases) {
     let mut random = Random::new(107);
-    for number in 0..40 {
+    for number in 0..60 {
         let shape = random::torn_shape(&mut random);
         let trace = random::valid(&mut random, &shape);
         cases.add(&format!("random/torn-{number}"), trace);
@@ -186,5 +187,19 @@ fn no_bytes(cases: &mut Cases) {
         };
         let trace = random::valid(&mut random, &shape);
         cases.add(&format!("random/no-bytes-{number}"), trace);
+    }
+}
+
+/// Many orders, of which one got a range B near its range A.
+fn shared(cases: &mut Cases) {
+    let mut random = Random::new(109);
+    for number in 0..25 {
+        let shape = Shape {
+            mix: Mix::ORDERED,
+            ..random::small_shape(&mut random)
+        };
+        let mut trace = random::valid(&mut random, &shape);
+        random::order_near_itself(&mut random, &mut trace);
+        cases.add(&format!("random/shared-{number}"), trace);
     }
 }

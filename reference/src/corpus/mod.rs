@@ -8,6 +8,7 @@ pub mod no_bytes;
 mod refused;
 pub mod run;
 pub(crate) mod runs;
+pub mod shared;
 pub mod torn;
 
 use crate::check::check;
@@ -138,6 +139,7 @@ fn own_cases() -> Vec<Case> {
     runs::add(&mut cases);
     torn::add(&mut cases);
     no_bytes::add(&mut cases);
+    shared::add(&mut cases);
     refused::add(&mut cases);
     layout::add(&mut cases);
     drawn::add(&mut cases);

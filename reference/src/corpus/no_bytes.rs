@@ -192,7 +192,7 @@ const BY_HAND: [(&str, u16, &str); 61] = [
         "inside-a-torn-store",
         2,
         "store 0/16; store 8/0; ordered 0/8 before 8/8; expect out-of-order 0 8 1 1;
-        ordered 8/8 before 0/8; expect out-of-order 8 0 1 1; ordered 0/8 before 0/8; expect holds;
+        ordered 8/8 before 0/8; expect out-of-order 8 0 1 1; ordered 0/4 before 4/4; expect holds;
         persisted 8/8; expect lost 8 0 6 1",
     ),
     (
@@ -245,7 +245,7 @@ const BY_HAND: [(&str, u16, &str); 61] = [
     (
         "ordered-a-inside-b",
         2,
-        "store 64/16; ordered 64/16 before 64/16; expect out-of-order 72 64 1 1;
+        "store 64/16; ordered 64/8 before 72/8; expect out-of-order 64 72 1 1;
         ordered 64/0 before 64/16; expect holds; ordered 68/0 before 64/16; expect holds;
         ordered 72/0 before 64/16; expect holds; ordered 80/0 before 64/16; expect holds;
         ordered 128/0 before 0/128; expect holds",
@@ -260,7 +260,7 @@ const BY_HAND: [(&str, u16, &str); 61] = [
     (
         "ordered-b-inside-a",
         2,
-        "store 0/16; ordered 0/16 before 0/16; expect out-of-order 8 0 1 1;
+        "store 0/16; ordered 0/8 before 8/8; expect out-of-order 0 8 1 1;
         ordered 0/16 before 0/0; expect holds; ordered 0/16 before 4/0; expect holds;
         ordered 0/16 before 8/0; expect holds; ordered 0/16 before 16/0; expect holds;
         ordered 0/128 before 128/0; expect holds",

@@ -146,13 +146,12 @@ const KINDS: [(&str, u8); 8] = [
 
 /// A good record of the kind.
 fn good_record(kind: u8) -> [u8; RECORD] {
-    let range = Range::new(0, 8);
     let a = match kind {
         Event::FENCE | Event::BEGIN | Event::END => NOTHING,
-        _ => range,
+        _ => Range::new(0, 8),
     };
     let b = if kind == Event::ORDERED {
-        range
+        Range::new(64, 8)
     } else {
         NOTHING
     };
@@ -362,6 +361,7 @@ fn orders_of_records(cases: &mut Cases) {
         ("9-no-bytes", records("persisted 129/0")),
         ("11", records("end")),
         ("12", records(&repeat("begin", 9))),
+        ("18", records("ordered 0/8 before 4/8")),
     ];
     for (one, first) in &bad {
         for (other, second) in &bad {

@@ -12,7 +12,7 @@ const NO_ROWS: usize = 124;
 const EDGES: [u16; 10] = [0, 9, 10, 99, 100, 999, 1_000, 9_999, 10_000, 65_535];
 
 pub(super) fn cases() -> Vec<Case> {
-    let mut cases = vec![whole_run()];
+    let mut cases = vec![whole_run(), earlier()];
     cases.extend(shown());
     cases.extend(none_shown());
     cases.extend(between());
@@ -44,6 +44,13 @@ fn whole_run() -> Case {
         .into_iter()
         .fold(Case::new("whole run"), put)
         .text()
+}
+
+/// The findings that an earlier version left for `store 0/8` and `ordered 0/8 before 0/8`, which is
+/// now refused by 18.
+fn earlier() -> Case {
+    let case = Case::new("earlier").put(0, 1, 0, [0, 0, 0, 0, 10]);
+    case.put(1, 1, 0, [0, 0, 0, 0, 11]).text()
 }
 
 /// Counts of findings shown, around whole pages.

@@ -46,4 +46,4 @@ accepted-taken lines h (r ∷ given) t = go (firstBroken (limitsBy (ofHistory li
 -- such a list has at most 65,535 events
 pub taken-events : {lines : ℕ} {h : History} → Taken lines h → length h ≤ 65535
 taken-events Taken.start = omega arith
-taken-events (Taken.taken {h = h} t (NoneBroken.cons a (NoneBroken.cons b c))) = omega (arith, leb-false 65535 (length h) b)
+taken-events (Taken.taken {h = h} t (NoneBroken.cons a (NoneBroken.cons s (NoneBroken.cons b c)))) = omega (arith, leb-false 65535 (length h) b)

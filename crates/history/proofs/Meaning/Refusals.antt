@@ -1,4 +1,4 @@
--- The window of a run and the refusals 9 to 12, in plain words.
+-- The window of a run and the refusals 9, 18 and 10 to 12, in plain words.
 use mathlib.Core.Path.{_≡_, refl}
 use mathlib.Core.Bool.{Bool, true}
 use mathlib.Core.Logic.{_⊎_, inl, inr, ⊎-elim}
@@ -10,11 +10,13 @@ use lib.ListN.{length}
 use borrow.Author.Tests.{eqb-true, eq-eqb, ne-eqb, leb-true, le-leb, ltb-true, lt-ltb, le-ltb}
 use Rattle.event.specs.declared.Range.{Range}
 use Rattle.event.specs.declared.Event.{Event}
+use Rattle.event.specs.declared.Event.the-variants.{Store, WriteBack, Fence, Begin, Log, End, Persisted, Ordered}
 use Rattle.event.specs.declared.Record.{Record}
 use Rattle.event.specs.declared.Refusal.{Refusal}
 use Rattle.event.specs.Numbers.{kindOf, numberOf}
-use Rattle.window.specs.Window.{isPast, rangesOf, anyRange}
+use Rattle.window.specs.Window.{covers, isPast, rangesOf, anyRange, sharesByte, rangesShare}
 use Rattle.event.proofs.Bools.{contradiction, and-left, and-right, both, or-cases, or-left, or-right}
+use Rattle.window.proofs.Meaning.{shared-byte, byte-shared}
 use Rattle.history.specs.History.{History, begins, logs, ends}
 use Rattle.history.specs.Transaction.{depth}
 use Rattle.history.specs.View.{ofHistory}
@@ -32,6 +34,7 @@ window-refused asked (inr k) = rw (ne-eqb asked 0 (λ z. omega (arith, k, z)), l
 -- what each number says of an event after the history h
 pub data Applies (lines : ℕ) (h : History) (e : Event) : ℕ → Type 0 where
   pastWindow : {a : Range} → List·Memᴰ a (rangesOf e) → lines * 64 < a .address + a .length → Applies lines h e 9
+  sharedByte : {a b : Range} (byte : ℕ) → e ≡ Ordered a b → covers a byte ≡ true → covers b byte ≡ true → Applies lines h e 18
   exhausted : 65535 ≤ length h → Applies lines h e 10
   noTransaction : (kindOf e ≡ 5) ⊎ (kindOf e ≡ 6) → depth h ≡ 0 → Applies lines h e 11
   tooDeep : kindOf e ≡ 4 → 8 ≤ depth h → Applies lines h e 12
@@ -55,8 +58,19 @@ asks-open e (inr k) = rw k
 log-or-end : (e : Event) → asksOpen e ≡ true → (kindOf e ≡ 5) ⊎ (kindOf e ≡ 6)
 log-or-end e t = ⊎-elim (λ k. inl (eqb-true (kindOf e) 5 k)) (λ k. inr (eqb-true (kindOf e) 6 k)) (or-cases (logs e) (ends e) t)
 
--- the numbers are tried in the order 9, 10, 11, 12
-pub limits-in-order : (lines : ℕ) (h : History) (e : Event) → limitNumbers (limitsBy (ofHistory lines h) e) ≡ 9 ∷ 10 ∷ 11 ∷ 12 ∷ []
+-- an event whose ranges share a byte is an ordered
+pub shared-ranges : (e : Event) → rangesShare e ≡ true → (a b : Range) × (e ≡ Ordered a b) × (sharesByte a b ≡ true)
+shared-ranges (Store a) t = absurd (contradiction t refl)
+shared-ranges (WriteBack a) t = absurd (contradiction t refl)
+shared-ranges Fence t = absurd (contradiction t refl)
+shared-ranges Begin t = absurd (contradiction t refl)
+shared-ranges (Log a) t = absurd (contradiction t refl)
+shared-ranges End t = absurd (contradiction t refl)
+shared-ranges (Persisted a) t = absurd (contradiction t refl)
+shared-ranges (Ordered a b) t = (a, b, refl, t)
+
+-- the numbers are tried in the order 9, 18, 10, 11, 12
+pub limits-in-order : (lines : ℕ) (h : History) (e : Event) → limitNumbers (limitsBy (ofHistory lines h) e) ≡ 9 ∷ 18 ∷ 10 ∷ 11 ∷ 12 ∷ []
 limits-in-order lines h e = refl
 
 -- the number that refuses an event applies to it
@@ -64,16 +78,21 @@ pub refused-applies : (lines : ℕ) (h : History) (r : Record) {x : Refusal} →
 refused-applies lines h r (First.here t) =
     let a = any-range (isPast lines) (rangesOf (r .event)) t in
     Applies.pastWindow (a .1) (ltb-true _ _ (a .2))
-refused-applies lines h r (First.later a (First.here t)) = Applies.exhausted (omega (arith, leb-true mostEvents (length h) t))
-refused-applies lines h r (First.later a (First.later b (First.here t))) =
+refused-applies lines h r (First.later a (First.here t)) =
+    let x = shared-ranges (r .event) t in
+    let byte = shared-byte (x .0) (x .1) (x .3) in
+    Applies.sharedByte (byte .0) (x .2) (byte .1) (byte .2)
+refused-applies lines h r (First.later a (First.later s (First.here t))) = Applies.exhausted (omega (arith, leb-true mostEvents (length h) t))
+refused-applies lines h r (First.later a (First.later s (First.later b (First.here t)))) =
     Applies.noTransaction (log-or-end (r .event) (and-left (asksOpen (r .event)) (eqb (depth h) 0) t)) (eqb-true _ _ (and-right (asksOpen (r .event)) (eqb (depth h) 0) t))
-refused-applies lines h r (First.later a (First.later b (First.later c (First.here t)))) =
+refused-applies lines h r (First.later a (First.later s (First.later b (First.later c (First.here t))))) =
     let deep = leb-true mostDepth (depth h) (and-right (begins (r .event)) (leb mostDepth (depth h)) t) in
     Applies.tooDeep (eqb-true (kindOf (r .event)) 4 (and-left (begins (r .event)) (leb mostDepth (depth h)) t)) (omega (arith, deep))
 
 -- and none applies to one that is accepted
 pub accepted-none : (lines : ℕ) (h : History) (r : Record) {n : ℕ} → Accepted lines h r → Applies lines h (r .event) n → ⊥
 accepted-none lines h r (NoneBroken.cons f k) (Applies.pastWindow m e) = contradiction (range-any (isPast lines) m (lt-ltb _ _ e)) f
-accepted-none lines h r (NoneBroken.cons a (NoneBroken.cons f k)) (Applies.exhausted e) = contradiction (le-leb mostEvents (length h) (omega (arith, e))) f
-accepted-none lines h r (NoneBroken.cons a (NoneBroken.cons b (NoneBroken.cons f k))) (Applies.noTransaction t e) = contradiction (both (asks-open (r .event) t) (eq-eqb _ 0 e)) f
-accepted-none lines h r (NoneBroken.cons a (NoneBroken.cons b (NoneBroken.cons c (NoneBroken.cons f k)))) (Applies.tooDeep t e) = contradiction (both (eq-eqb (kindOf (r .event)) 4 t) (le-leb mostDepth (depth h) (omega (arith, e)))) f
+accepted-none lines h r (NoneBroken.cons past (NoneBroken.cons f k)) (Applies.sharedByte {a = a} {b = b} byte e c d) = contradiction (rw e (byte-shared a b byte c d)) f
+accepted-none lines h r (NoneBroken.cons a (NoneBroken.cons s (NoneBroken.cons f k))) (Applies.exhausted e) = contradiction (le-leb mostEvents (length h) (omega (arith, e))) f
+accepted-none lines h r (NoneBroken.cons a (NoneBroken.cons s (NoneBroken.cons b (NoneBroken.cons f k)))) (Applies.noTransaction t e) = contradiction (both (asks-open (r .event) t) (eq-eqb _ 0 e)) f
+accepted-none lines h r (NoneBroken.cons a (NoneBroken.cons s (NoneBroken.cons b (NoneBroken.cons c (NoneBroken.cons f k))))) (Applies.tooDeep t e) = contradiction (both (eq-eqb (kindOf (r .event)) 4 t) (le-leb mostDepth (depth h) (omega (arith, e)))) f

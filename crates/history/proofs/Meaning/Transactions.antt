@@ -44,7 +44,7 @@ depth-next e d k f = go (begins e) (ends e) f
 pub taken-depth : {lines : ℕ} {h : History} → Taken lines h → depth h ≤ 8
 unfolding depth
 taken-depth Taken.start = omega arith
-taken-depth (Taken.taken {h = h} {r = r} t (NoneBroken.cons a (NoneBroken.cons b (NoneBroken.cons c (NoneBroken.cons d e))))) =
+taken-depth (Taken.taken {h = h} {r = r} t (NoneBroken.cons a (NoneBroken.cons s (NoneBroken.cons b (NoneBroken.cons c (NoneBroken.cons d e)))))) =
     depth-next (r .event) (depth h) (taken-depth t) d
 
 -- in it, the transactions open are the begins less the ends
@@ -67,7 +67,7 @@ balance e b c d f k = go (begins e) refl (ends e) refl (logs e) f
 pub begins-less-ends : {lines : ℕ} {h : History} → Taken lines h → how-many begins h ≡ how-many ends h + depth h
 unfolding depth count
 begins-less-ends Taken.start = refl
-begins-less-ends (Taken.taken {h = h} {r = r} t (NoneBroken.cons a (NoneBroken.cons b (NoneBroken.cons c d)))) =
+begins-less-ends (Taken.taken {h = h} {r = r} t (NoneBroken.cons a (NoneBroken.cons s (NoneBroken.cons b (NoneBroken.cons c d))))) =
     rw (count-newest begins r h, count-newest ends r h) (balance (r .event) (how-many begins h) (how-many ends h) (depth h) c (begins-less-ends t))
 
 -- before any begin there is no outermost one

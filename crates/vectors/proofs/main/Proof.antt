@@ -9,7 +9,7 @@ use Rattle.vectors.proofs.main.Tie as tie
 
 abbrev Inv-loop : tie.InvT-loop
 Inv-loop answers₀ kinds₀ traces₀ differ₀ header₀ t6 t7 answers kinds traces differ header =
-    (traces ≤ 65535) × (differ ≤ traces) × (length answers ≡ 15) × (length kinds ≡ 9) × (length header ≡ 16)
+    (traces ≤ 65535) × (differ ≤ traces) × (length answers ≡ 19) × (length kinds ≡ 9) × (length header ≡ 16)
 
 abbrev μ-loop : tie.MeasureT-loop
 μ-loop answers₀ kinds₀ traces₀ differ₀ header₀ t6 t7 answers kinds traces differ header = 65535 - traces

@@ -6,10 +6,10 @@ use Rattle.vectors.proofs.print_answers.Statement.{statement}
 use Rattle.vectors.proofs.print_answers.Tie as tie
 
 abbrev Inv-loop : tie.InvT-loop
-Inv-loop answers i₀ i = i ≤ 15
+Inv-loop answers i₀ i = i ≤ 19
 
 abbrev μ-loop : tie.MeasureT-loop
-μ-loop answers i₀ i = 15 - i
+μ-loop answers i₀ i = 19 - i
 
 slice-aggregate-print-count : tie.Need-slice-aggregate-print-count Inv-loop μ-loop
 slice-aggregate-print-count c = search needs
