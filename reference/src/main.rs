@@ -222,7 +222,7 @@ fn calls_command(calls_name: &str, answers_name: &str) -> Result<ExitCode, Failu
         eprintln!("{line}");
     }
     write_file(calls_name, &calls.to_bytes())?;
-    write_file(answers_name, calls.text().as_bytes())
+    write_file(answers_name, calls.numbers().as_bytes())
 }
 
 fn findings_command(name: &str) -> Result<ExitCode, Failure> {

@@ -161,7 +161,7 @@ fn calls() {
     let calls = std::fs::read(calls).expect("written");
     assert_eq!((calls.len() % 12, calls[0]), (0, 16));
     let answers = std::fs::read_to_string(answers).expect("written");
-    assert!(answers.starts_with("fresh 2: taken\nstore 120/8: none\n"));
+    assert!(answers.starts_with("fresh 2:\ngive 1 0 120 8 0 0 1: 0 0 0 0 0\n"));
 }
 
 #[test]
@@ -213,7 +213,7 @@ fn page_calls() {
     let calls = std::fs::read(calls).expect("written");
     assert_eq!((calls.len() % 24, calls[0]), (0, 2));
     let answers = std::fs::read_to_string(answers).expect("written");
-    assert!(answers.starts_with("pages of 108 bytes in 372: length 372 sum "));
+    assert!(answers.starts_with("pages of 108 bytes in 372: 372 sum "));
 }
 
 #[test]

@@ -489,7 +489,7 @@ fn stored_calls_are_the_same() {
     assert!(stored == calls.to_bytes(), "the stored calls differ");
     let stored = std::fs::read(stdout).expect("the stored answers are readable");
     assert!(
-        stored == calls.text().into_bytes(),
+        stored == calls.numbers().into_bytes(),
         "the stored answers differ"
     );
 }
@@ -498,7 +498,7 @@ fn stored_calls_are_the_same() {
 fn calls_are_the_same_each_time() {
     let (one, other) = (build(), build());
     assert_eq!(one.to_bytes(), other.to_bytes());
-    assert_eq!(one.text(), other.text());
+    assert_eq!(one.numbers(), other.numbers());
 }
 
 #[test]

@@ -1,4 +1,6 @@
 // The calls of the engine, each with its line printed.
+use event::Answer;
+use event::Check;
 use event::Event;
 use event::Parsed;
 use event::Record;
@@ -8,14 +10,26 @@ ghost use Rattle.records.specs.Record.{parsed};
 ghost use Rattle.engine.specs.Call.{freshOf};
 ghost use Rattle.engine_runs.specs.Runs.{afterRecord, afterFences, afterCall};
 
+// A fresh window of so many lines, and what the check says.
+fn print_fresh(lines: u16, c: Check) {
+    call_lines::field(b"fresh ", lines);
+    call_lines::answered(replies::of_check(c));
+}
+
 // A fresh window, and the run that it hands over.
 fn fresh(lines: u16) -> Run
     ensures { λ r. ⌜ r ≡ freshOf lines .run ⌝ }
 {
     let w = engine::fresh(lines);
     let check = w.check;
-    call_lines::fresh(lines, check);
+    print_fresh(lines, check);
     w.run
+}
+
+// An event given in the bytes of a record, and its answer.
+fn print_given(bytes: &[u8], a: Answer) {
+    call_lines::record(b"give ", bytes);
+    call_lines::answered(replies::of_answer(a));
 }
 
 // An event given, and the run after it. A record that cannot be read changes nothing.
@@ -24,14 +38,13 @@ fn give(run: Run, bytes: &[u8]) -> Run
 {
     match records::read_record(bytes) {
         Parsed::Refused(x) => {
-            call_lines::unread(x);
+            print_given(bytes, Answer::Refused(x));
             run
         }
         Parsed::Read(r) => {
             let g = engine::give(run, r);
-            let event = r.event;
             let answer = g.answer;
-            call_lines::given(event, answer);
+            print_given(bytes, answer);
             g.run
         }
     }
@@ -40,19 +53,22 @@ fn give(run: Run, bytes: &[u8]) -> Run
 // A byte asked.
 fn ask(run: Run, byte: u16) {
     let a = engine::ask(run, byte);
-    call_lines::asked(byte, a);
+    call_lines::field(b"ask ", byte);
+    call_lines::answered(replies::of_asked(a));
 }
 
 // The run closed.
 fn close(run: Run) {
     let c = engine::close(run);
-    call_lines::closed(c);
+    call_lines::words(b"close");
+    call_lines::answered(replies::of_closing(c));
 }
 
 // The run asked for its mean exposure.
 fn expose(run: Run) {
     let e = exposure::exposure(run);
-    call_lines::exposed(e);
+    call_lines::words(b"exposure");
+    call_lines::answered(replies::of_exposed(e));
 }
 
 // So many fences given, with no line printed, and the run after them.

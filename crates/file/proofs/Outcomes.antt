@@ -1,5 +1,5 @@
 -- The outcome of a call, by what its checks say.
-use mathlib.Core.Path.{_≡_, sym, ap, ap₂, _∙_}
+use mathlib.Core.Path.{_≡_, refl, sym, ap, ap₂, _∙_}
 use mathlib.Core.Bool.{Bool, true, false, cond}
 use mathlib.Core.Logic.{_≢_}
 use mathlib.Core.List.{List, [], _∷_, _++_}
@@ -14,20 +14,21 @@ use Rattle.event.specs.declared.Refusal.{Refusal}
 use Rattle.event.specs.declared.Refusal.the-variants.{TraceTooLong, TransactionOpen}
 use Rattle.event.specs.declared.Check.{Check}
 use Rattle.event.specs.declared.Check.the-variants.{Passed, Refused as Breaks}
+use Rattle.event.specs.declared.Parsed.{Parsed}
 use Rattle.event.specs.declared.Parsed.the-variants.{Read, Refused as Unread}
 use Rattle.event.proofs.Laws.{equal-by}
 use Rattle.codec.specs.Placed.{placed}
 use Rattle.codec.proofs.Placed.{placed-laid}
 use Rattle.records.specs.Record.{recordSize, recordOf, parsed}
-use Rattle.history.specs.Refused.{Limit, limit, limitsBy, firstBroken, refusalBy}
+use Rattle.history.specs.Refused.{Limit, limitsBy, firstBroken, refusalBy}
 use Rattle.limits.proofs.Parts.{part-refused, part-passed}
 use Rattle.trailer.specs.Trailer.{trailerSize, mostBytes}
 use Rattle.trace.specs.Checked.{readLimits}
 use Rattle.trace.proofs.ReadLimits.{as-read, as-unread}
 use Rattle.file.specs.declared.Writer.{Writer}
 use Rattle.file.specs.declared.Written.{Written}
-use Rattle.file.specs.Limits.{lengthLimit, roomLimit}
-use Rattle.file.specs.Write.{recordsEnd, viewOf, areaFor, recordLaid, writtenFor, writeCheck, writtenOf, areaWritten, bytesCheck, bytesWrittenOf, areaBytesWritten, closeCheck}
+use Rattle.file.specs.Limits.{roomLimit}
+use Rattle.file.specs.Write.{recordsEnd, viewOf, areaFor, recordLaid, writtenFor, writeCheck, writtenOf, areaWritten, unreadCheck, parsedWrittenOf, areaParsedWritten, bytesCheck, bytesWrittenOf, areaBytesWritten, closeCheck}
 
 -- the check of an event: 2, its own limits, 15
 module _ (room : ℕ) (w : Writer) (e : Event) {t : Bool} (tested : t ≡ ltb mostBytes (recordsEnd w + recordSize + trailerSize)) where
@@ -65,7 +66,7 @@ module _ (w : Writer) (s : List ℕ) (room : ℕ) where
   long = ltb mostBytes (recordsEnd w + recordSize + trailerSize)
 
   unread-check : {x : Refusal} → parsed s ≡ Unread x →
-      bytesCheck room w s ≡ firstBroken (lengthLimit (recordsEnd w + recordSize) ∷ limit true x ∷ [])
+      bytesCheck room w s ≡ unreadCheck w x
   unread-check e = ap (λ (c : Check). cond long (Breaks TraceTooLong) c) (sym (part-refused (readLimits s) rest (as-unread s e)))
 
   -- and of one that can be read the record decides
@@ -75,7 +76,7 @@ module _ (w : Writer) (s : List ℕ) (room : ℕ) where
 -- whichever of the two numbers it is, nothing changes
 module _ (area : List ℕ) (w : Writer) (s : List ℕ) {x : Refusal} (e : parsed s ≡ Unread x) where
   pub bytes-unread : {v : Written} →
-      v ≡ writtenFor (firstBroken (lengthLimit (recordsEnd w + recordSize) ∷ limit true x ∷ [])) w Fence → v ≡ bytesWrittenOf area w s
+      v ≡ writtenFor (unreadCheck w x) w Fence → v ≡ bytesWrittenOf area w s
   bytes-unread k = k ∙ go (long w s (length area)) ∙ ap (λ (c : Check). writtenFor c w (recordOf s .event)) (sym (unread-check w s (length area) e))
     where
       go : (b : Bool) → writtenFor (cond b (Breaks TraceTooLong) (Breaks x)) w Fence ≡ writtenFor (cond b (Breaks TraceTooLong) (Breaks x)) w (recordOf s .event)
@@ -100,3 +101,12 @@ module _ (area : List ℕ) (w : Writer) (s : List ℕ) {r : Record} (e : parsed 
   area-read k =
       k ∙ ap (areaWritten area w) (as-read s e .same) ∙
       ap (λ (c : Check). recordLaid c w (recordOf s) area) (sym (read-check w s (length area) e))
+
+-- an event that comes as bytes is the event as it was read
+pub bytes-parsed : (area : List ℕ) (w : Writer) (s : List ℕ) →
+    (parsedWrittenOf area w (parsed s) ≡ bytesWrittenOf area w s) × (areaParsedWritten area w (parsed s) ≡ areaBytesWritten area w s)
+bytes-parsed area w s = go (parsed s) refl
+  where
+    go : (p : Parsed) → parsed s ≡ p → (parsedWrittenOf area w p ≡ bytesWrittenOf area w s) × (areaParsedWritten area w p ≡ areaBytesWritten area w s)
+    go (Read r) e = (bytes-read area w s e refl, area-read area w s e refl)
+    go (Unread x) e = (bytes-unread area w s e refl, area-unread area w s e)

@@ -1,17 +1,22 @@
 -- The calls of a writer, for every area and every writer whatever: the answer, the writer to go on with, and the area. A refused call
 -- changes nothing; an accepted one lays its bytes down, and every other byte of the area stays.
-use mathlib.Core.List.{List}
+use mathlib.Core.Bool.{true}
+use mathlib.Core.List.{List, [], _∷_}
 use Prim.Native.Nat.{ℕ, suc, _+_, _*_}
 use lib.ListN.{length}
 use Rattle.event.specs.declared.Event.{Event}
+use Rattle.event.specs.declared.Event.the-variants.{Fence}
 use Rattle.event.specs.declared.Record.{Record}
+use Rattle.event.specs.declared.Refusal.{Refusal}
 use Rattle.event.specs.declared.Check.{Check}
 use Rattle.event.specs.declared.Check.the-variants.{Passed, Refused as Breaks}
+use Rattle.event.specs.declared.Parsed.{Parsed}
+use Rattle.event.specs.declared.Parsed.the-variants.{Read, Refused as Unread}
 use Rattle.codec.specs.Placed.{laid}
 use Rattle.records.specs.Record.{recordSize, recordOf, recordBytes}
 use Rattle.history.specs.Transaction.{depthAfter}
 use Rattle.history.specs.View.{View}
-use Rattle.history.specs.Refused.{firstBroken}
+use Rattle.history.specs.Refused.{limit, firstBroken}
 use Rattle.limits.specs.Limits.{numbersOf}
 use Rattle.trailer.specs.Trailer.{trailerSize, trailerWith}
 use Rattle.file.specs.declared.Writer.{Writer}
@@ -20,7 +25,7 @@ use Rattle.file.specs.declared.Started.the-variants.{Refused as NotStart
 use Rattle.file.specs.declared.Written.{Written}
 use Rattle.file.specs.declared.Closed.{Closed}
 use Rattle.file.specs.declared.Closed.the-variants.{Refused as NotClosed, File}
-use Rattle.file.specs.Limits.{startLimits, writeLimits, bytesLimits, closeLimits}
+use Rattle.file.specs.Limits.{lengthLimit, startLimits, writeLimits, bytesLimits, closeLimits}
 
 abbrev pub writerWith : (lines offset count depth : ℕ) → Writer
 writerWith lines offset count depth = record { lines = lines; offset = offset; count = count; depth = depth }
@@ -73,6 +78,18 @@ writtenOf area w r = writtenFor (writeCheck (length area) w (r .event)) w (r .ev
 
 abbrev pub areaWritten : (area : List ℕ) → Writer → Record → List ℕ
 areaWritten area w r = recordLaid (writeCheck (length area) w (r .event)) w r area
+
+-- an event as it was read: one that cannot be read is refused by 2 where it applies, else by the number that reading gave
+abbrev pub unreadCheck : Writer → Refusal → Check
+unreadCheck w x = firstBroken (lengthLimit (recordsEnd w + recordSize) ∷ limit true x ∷ [])
+
+abbrev pub parsedWrittenOf : (area : List ℕ) → Writer → Parsed → Written
+parsedWrittenOf area w (Read r) = writtenOf area w r
+parsedWrittenOf area w (Unread x) = writtenFor (unreadCheck w x) w Fence
+
+abbrev pub areaParsedWritten : (area : List ℕ) → Writer → Parsed → List ℕ
+areaParsedWritten area w (Read r) = areaWritten area w r
+areaParsedWritten area w (Unread x) = area
 
 -- the same for an event that comes as the bytes of a record
 abbrev pub bytesCheck : (room : ℕ) → Writer → List ℕ → Check

@@ -1,5 +1,4 @@
 // The calls that lay out the findings, each with its line printed.
-use event::numbers;
 use pages::Paged;
 ghost use mathlib.Core.Path.{_≡_};
 ghost use Prim.Native.Nat.{min};
@@ -20,13 +19,7 @@ fn lay_out(findings: &[u8], area: &mut [u8]) -> Paged
 fn print_line(findings: &[u8], area: &[u8], p: Paged) {
     call_lines::place(b"pages of ", findings.len());
     call_lines::place(b" bytes in ", area.len());
-    match p {
-        Paged::Refused { refusal, position } => {
-            call_lines::field(b": refused ", numbers::number(refusal) as u16);
-            call_lines::field(b" at ", position);
-        }
-        Paged::Written { length } => call_lines::place(b": length ", length as usize),
-    }
+    call_lines::reply(replies::of_paged(p));
     call_lines::field(b" sum ", writer_calls::changes::sum(area));
     call_lines::words(b"\n");
 }

@@ -1,45 +1,39 @@
--- What the calls of a writer leave, from what the calls beneath them ensure.
+-- What the calls answer and leave, from what the calls beneath them ensure.
 use mathlib.Core.Path.{_≡_, ap, ap₂, _∙_}
-use mathlib.Core.List.{List, [], _∷_}
+use mathlib.Core.List.{List}
 use Prim.Native.Nat.{ℕ, _%_, _^_, _<_}
 use native.Mathlib.Omega.{arith}
-use Rattle.event.specs.declared.Refusal.{Refusal}
-use Rattle.event.specs.Numbers.{numberOf}
-use Rattle.event.specs.Reply.{checkReply}
+use Rattle.event.specs.declared.Range.{Range}
+use Rattle.event.specs.declared.Parsed.{Parsed}
+use Rattle.event.specs.Reply.{Reply}
+use Rattle.records.specs.Record.{parsed, parsedFields, fieldsBytes}
+use Rattle.records.proofs.RoundTrip.{fields-read}
 use Rattle.file.specs.declared.Writer.{Writer}
-use Rattle.file.specs.declared.Started.{Started}
-use Rattle.file.specs.declared.Started.the-variants.{Refused, Ready}
 use Rattle.file.specs.declared.Written.{Written}
-use Rattle.file.specs.declared.Closed.{Closed}
-use Rattle.file.specs.Write.{writerWith, bytesWrittenOf, areaBytesWritten, closedOf, areaClosed}
-use Rattle.file.specs.Reply.{startReply, writtenReply, closedReply}
-use Rattle.pmjudge_c.specs.Writer.{twoNumbers, writerNumbers, writerFrom, afterStart, afterCheck, afterEvent}
+use Rattle.file.specs.Write.{writerWith, parsedWrittenOf, areaParsedWritten, bytesWrittenOf, areaBytesWritten}
+use Rattle.file.proofs.Outcomes.{bytes-parsed}
+use Rattle.replies.specs.declared.Numbers.{Numbers}
+use Rattle.replies.specs.Numbers.{numbersOf}
+use Rattle.pmjudge_c.specs.Writer.{writerNumbers, writerFrom}
 
--- a start
-pub not-started : {s t : Started} {x : Refusal} {answer : List ℕ} (n : List ℕ) → s ≡ t → s ≡ Refused x → answer ≡ numberOf x ∷ 0 ∷ [] →
-    (answer ≡ twoNumbers (startReply t)) × (n ≡ afterStart t n)
-not-started n e k a = (rw (← e, k, a), rw (← e, k))
+-- the numbers given are those of the reply to what the call beneath answers
+pub answered : {A : Type 0} (given : Numbers → List ℕ) (reply : A → Reply) {answer : List ℕ} {n : Numbers} {a b : A} → answer ≡ given n →
+    n ≡ numbersOf (reply a) → a ≡ b → answer ≡ given (numbersOf (reply b))
+answered {A} given reply x y z = x ∙ ap given (y ∙ ap (λ (a : A). numbersOf (reply a)) z)
 
-pub is-started : {s t : Started} {w : Writer} {numbers : List ℕ} (n : List ℕ) → s ≡ t → s ≡ Ready w → numbers ≡ writerNumbers w →
-    (0 ∷ 0 ∷ [] ≡ twoNumbers (startReply t)) × (numbers ≡ afterStart t n)
-is-started n e k a = (rw (← e, k), rw (← e, k, a))
+-- an event: its fields are read as the bytes of its record are, and the writer is that of its numbers
+module _ (area : List ℕ) {w v : Writer} (same : w ≡ v) (kind : ℕ) (a b : Range) (site : ℕ) {p : Parsed} (read : p ≡ parsedFields kind 0 a b site) where
+  abbrev bytes : List ℕ
+  bytes = fieldsBytes kind a b site
 
--- an event: the bytes and the writer that were given are those of its numbers
-module _ (area : List ℕ) {w v : Writer} {s t : List ℕ} (same : w ≡ v) (bytes : s ≡ t) where
-  pub event-left : {x : Written} {answer numbers : List ℕ} (n : List ℕ) → x ≡ bytesWrittenOf area w s → answer ≡ twoNumbers (checkReply (x .check)) →
-      numbers ≡ afterCheck (x .check) (x .writer) n →
-      (answer ≡ twoNumbers (writtenReply (bytesWrittenOf area v t))) × (numbers ≡ afterEvent (bytesWrittenOf area v t) n)
-  event-left n e a b =
-      let x = e ∙ ap₂ (bytesWrittenOf area) same bytes in
-      (a ∙ ap (λ (y : Written). twoNumbers (writtenReply y)) x, b ∙ ap (λ (y : Written). afterEvent y n) x)
+  from-bytes : p ≡ parsed bytes
+  from-bytes = rw (fields-read kind a b site) read
 
-  pub event-area : {next : List ℕ} → next ≡ areaBytesWritten area w s → next ≡ areaBytesWritten area v t
-  event-area e = e ∙ ap₂ (areaBytesWritten area) same bytes
+  pub event-written : {x : Written} → x ≡ parsedWrittenOf area w p → x ≡ bytesWrittenOf area v bytes
+  event-written e = e ∙ ap₂ (parsedWrittenOf area) same from-bytes ∙ bytes-parsed area v bytes .0
 
--- a closing
-pub closing-left : (area : List ℕ) {w v : Writer} {c : Closed} {answer next : List ℕ} → w ≡ v → c ≡ closedOf area w → answer ≡ twoNumbers (closedReply c) →
-    next ≡ areaClosed area w → (answer ≡ twoNumbers (closedReply (closedOf area v))) × (next ≡ areaClosed area v)
-closing-left area same e a b = (a ∙ ap (λ (d : Closed). twoNumbers (closedReply d)) (e ∙ ap (closedOf area) same), b ∙ ap (areaClosed area) same)
+  pub event-area : {next : List ℕ} → next ≡ areaParsedWritten area w p → next ≡ areaBytesWritten area v bytes
+  event-area e = e ∙ ap₂ (areaParsedWritten area) same from-bytes ∙ bytes-parsed area v bytes .1
 
 -- a writer that goes through its numbers is the one that was handed over: its fields have 16 bits
 pub writer-kept : (w : Writer) → w .lines < 2 ^ 16 → w .depth < 2 ^ 16 → writerFrom (writerNumbers w) ≡ w

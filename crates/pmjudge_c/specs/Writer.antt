@@ -1,5 +1,4 @@
--- A writer and the answers to its calls as numbers: the refusal's number, 0 where the call is accepted; and the file's length in 32 bits
--- after an accepted closing, else 0.
+-- A writer and the answers to its calls as numbers.
 use mathlib.Core.List.{List, [], _∷_}
 use Prim.Native.Nat.{ℕ, _%_, _^_}
 use lib.ListN.{getD}
@@ -12,10 +11,15 @@ use Rattle.file.specs.declared.Started.{Started}
 use Rattle.file.specs.declared.Started.the-variants.{Refused, Ready}
 use Rattle.file.specs.declared.Written.{Written}
 use Rattle.file.specs.Write.{writerWith}
+use Rattle.replies.specs.declared.Numbers.{Numbers}
+use Rattle.replies.specs.Numbers.{numbersOf}
+
+-- the refusal's number, 0 where the call is accepted; and the file's length after an accepted closing, else 0
+abbrev pub withLength : Numbers → List ℕ
+withLength n = n .number ∷ getD (n .values) 0 0 ∷ []
 
 abbrev pub twoNumbers : Reply → List ℕ
-twoNumbers (Reply.refused number at) = number ∷ 0 ∷ []
-twoNumbers (Reply.values values) = 0 ∷ getD values 0 0 % 2 ^ 32 ∷ []
+twoNumbers reply = withLength (numbersOf reply)
 
 -- a writer: lines, offset, count, transactions open. Of numbers that no writer has, the first and the last are taken in 16 bits
 abbrev pub writerNumbers : Writer → List ℕ

@@ -2,45 +2,21 @@
 // byte shared), stands in include/pmjudge.h.
 use event::Check;
 use event::Range;
-use event::Refusal;
-use event::numbers;
-use file::Closed;
 use file::Started;
 use file::Writer;
+use replies::Numbers;
 ghost use mathlib.Core.Path.{_≡_};
-ghost use mathlib.Core.List.{[], _∷_};
-ghost use Prim.Native.Nat.{_%_};
-ghost use Rattle.event.specs.Numbers.{numberOf};
-ghost use Rattle.event.specs.Reply.{checkReply};
 ghost use Rattle.file.specs.Write.{startedOf, areaStarted, bytesWrittenOf, areaBytesWritten, closedOf, areaClosed};
 ghost use Rattle.file.specs.Reply.{startReply, writtenReply, closedReply};
-ghost use Rattle.pmjudge_c.specs.Writer.{twoNumbers, writerNumbers, writerFrom, afterStart, afterCheck, afterEvent, eventBytes};
+ghost use Rattle.replies.specs.Numbers.{inBits32};
+ghost use Rattle.pmjudge_c.specs.Writer.{withLength, twoNumbers, writerNumbers, writerFrom, afterStart, afterCheck, afterEvent, eventBytes};
 
-// A refusal as two numbers.
-fn refused(x: Refusal) -> [u32; 2]
-    ensures { λ r. ⌜ r ≡ numberOf x ∷ 0 ∷ [] ⌝ }
+// The numbers of an answer that has no value, or a length.
+fn length_only(n: Numbers) -> [u32; 2]
+    ensures { λ r. ⌜ r ≡ withLength n ⌝ }
 {
-    [numbers::number(x) as u32, 0]
-}
-
-// What the limits say of an event, as two numbers.
-fn checked(c: Check) -> [u32; 2]
-    ensures { λ r. ⌜ r ≡ twoNumbers (checkReply c) ⌝ }
-{
-    match c {
-        Check::Refused(x) => refused(x),
-        Check::Passed => [0, 0],
-    }
-}
-
-// A closing as two numbers.
-fn closed(c: Closed) -> [u32; 2]
-    ensures { λ r. ⌜ r ≡ twoNumbers (closedReply c) ⌝ }
-{
-    match c {
-        Closed::Refused(x) => refused(x),
-        Closed::File(length) => [0, (length % 4294967296) as u32],
-    }
+    let v = n.values;
+    [n.number as u32, v[0]]
 }
 
 // A writer as four numbers.
@@ -72,6 +48,16 @@ fn put_numbers(n: &mut [u32; 4], c: Check, w: Writer)
     }
 }
 
+// The numbers of the writer that a start handed over.
+fn put_started(n: &mut [u32; 4], s: Started)
+    ensures { λ _. ⌜ now (n .exit) ≡ afterStart s (now (n .entry)) ⌝ }
+{
+    match s {
+        Started::Refused(_) => {}
+        Started::Ready(w) => *n = numbers_of(w),
+    }
+}
+
 // Starts a file.
 #[no_mangle]
 pub extern "C" fn pmjudge_writer_start(
@@ -85,13 +71,9 @@ pub extern "C" fn pmjudge_writer_start(
     ensures { λ _. ⌜ now (writer .exit) ≡ afterStart (startedOf (now (area .entry)) (now (preamble .entry)) lines) (now (writer .entry)) ⌝ }
     ensures { λ _. ⌜ now (area .exit) ≡ areaStarted (now (area .entry)) (now (preamble .entry)) lines ⌝ }
 {
-    match writer::start(area, preamble, lines) {
-        Started::Refused(x) => *answer = refused(x),
-        Started::Ready(w) => {
-            *writer = numbers_of(w);
-            *answer = [0, 0];
-        }
-    }
+    let s = writer::start(area, preamble, lines);
+    put_started(writer, s);
+    *answer = length_only(replies::of_started(s));
 }
 
 // Writes an event, which comes as numbers.
@@ -129,18 +111,19 @@ pub extern "C" fn pmjudge_writer_event(
         address: b,
         length: b_length,
     };
-    let bytes = layout::fields_bytes(kind, first, second, site);
-    let x = writer::write_bytes(area, writer_of(writer), &bytes);
+    let p = records::read_fields(kind, 0, first, second, site);
+    let x = writer::write_parsed(area, writer_of(writer), p);
     let check = x.check;
     put_numbers(writer, check, x.writer);
-    *answer = checked(check);
+    *answer = length_only(replies::of_check(check));
 }
 
 // Closes the file.
 #[no_mangle]
 pub extern "C" fn pmjudge_writer_close(area: &mut [u8], writer: &[u32; 4], answer: &mut [u32; 2])
-    ensures { λ _. ⌜ now (answer .exit) ≡ twoNumbers (closedReply (closedOf (now (area .entry)) (writerFrom (now (writer .entry))))) ⌝ }
+    ensures { λ _. ⌜ now (answer .exit) ≡ twoNumbers (closedReply (inBits32 (closedOf (now (area .entry)) (writerFrom (now (writer .entry)))))) ⌝ }
     ensures { λ _. ⌜ now (area .exit) ≡ areaClosed (now (area .entry)) (writerFrom (now (writer .entry))) ⌝ }
 {
-    *answer = closed(writer::close(area, writer_of(writer)));
+    let c = writer::close(area, writer_of(writer));
+    *answer = length_only(replies::of_closed(c));
 }

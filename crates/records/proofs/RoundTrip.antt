@@ -17,7 +17,7 @@ use Rattle.event.specs.declared.Refusal.the-variants.{UnknownKind, FieldSet}
 use Rattle.event.specs.Numbers.{kindOf}
 use Rattle.window.specs.Window.{rangesOf}
 use Rattle.codec.specs.Codec.{u16At, u16Bytes}
-use Rattle.records.specs.Record.{rangeAt, isKind, usesA, usesB, isZero, isClear, eventOf, recordOf, parsed, padded, zeroRange, rangeBytes, recordBytes, rangeValues, recordValues}
+use Rattle.records.specs.Record.{rangeAt, isKind, usesA, usesB, isZero, isClear, eventOf, recordOf, parsed, parsedFields, padded, zeroRange, rangeBytes, fieldsBytes, recordBytes, rangeValues, recordValues}
 use Rattle.event.proofs.Bools.{contradiction, and-left, and-right}
 use Rattle.codec.proofs.Meaning.{u16-round-trip, u16-bytes}
 use Rattle.records.proofs.Meaning.{kind-of-event}
@@ -31,6 +31,10 @@ read-back (Log a) site = simp u16-round-trip
 read-back End site = simp u16-round-trip
 read-back (Persisted a) site = simp u16-round-trip
 read-back (Ordered a b) site = simp u16-round-trip
+
+-- whatever the fields of a record say, reading its bytes is reading them
+pub fields-read : (kind : ℕ) (a b : Range) (site : ℕ) → parsed (fieldsBytes kind a b site) ≡ parsedFields kind 0 a b site
+fields-read kind a b site = simp u16-round-trip
 
 -- what reading a record gave
 pub record ReadFrom (s : List ℕ) (e : Event) (site : ℕ) : Type 0 where

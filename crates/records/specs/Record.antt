@@ -72,6 +72,13 @@ fieldSet s = not (isClear (getD s 0 0) (getD s 1 0) (rangeAt s 2) (rangeAt s 6))
 abbrev pub parsed : List ℕ → Parsed
 parsed s = cond (badKind s) (Refused UnknownKind) (cond (fieldSet s) (Refused FieldSet) (Read (recordOf s)))
 
+-- the same of the numbers that the bytes hold
+abbrev pub parsedFields : (kind zeroByte : ℕ) (a b : Range) (site : ℕ) → Parsed
+parsedFields kind zeroByte a b site =
+    cond (not (isKind kind)) (Refused UnknownKind)
+    (cond (not (isClear kind zeroByte a b)) (Refused FieldSet)
+    (Read (record { event = eventOf kind a b; site = site })))
+
 -- the first n bytes; bytes past the end count as 0
 abbrev pub padded : ℕ → List ℕ → List ℕ
 padded zero s = []

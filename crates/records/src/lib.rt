@@ -1,4 +1,4 @@
-// The bytes of a record, read. Numbers are least significant byte first.
+// A record read, from its bytes or from the numbers in them. Numbers are least significant byte first.
 use event::Event;
 use event::Parsed;
 use event::Range;
@@ -9,7 +9,7 @@ ghost use mathlib.Core.Bool.{_||_};
 ghost use Prim.Native.Nat.{_+_, _≤_};
 ghost use lib.ListN.{length};
 ghost use Rattle.codec.specs.Codec.{u16At};
-ghost use Rattle.records.specs.Record.{rangeAt, isKind, usesA, usesB, isZero, isClear, eventOf, parsed, padded};
+ghost use Rattle.records.specs.Record.{rangeAt, isKind, usesA, usesB, isZero, isClear, eventOf, parsed, parsedFields, padded};
 
 // The u16 at a place, both of whose bytes are there.
 fn u16_in(s: &[u8], at: usize) -> u16
@@ -91,7 +91,7 @@ fn event_of(kind: u8, a: Range, b: Range) -> Event
 }
 
 // The first 12 bytes of a slice, 0 past its end.
-fn padded(s: &[u8]) -> [u8; 12]
+pub fn padded(s: &[u8]) -> [u8; 12]
     ensures { λ r. ⌜ r ≡ padded 12 (now (s .entry)) ⌝ }
 {
     let mut t = [0u8; 12];
@@ -103,24 +103,31 @@ fn padded(s: &[u8]) -> [u8; 12]
     t
 }
 
+// The record of these numbers, or the refusal 6 or 7.
+pub fn read_fields(kind: u8, zero: u8, a: Range, b: Range, site: u16) -> Parsed
+    ensures { λ r. ⌜ r ≡ parsedFields kind zero a b site ⌝ }
+{
+    if !is_kind(kind) {
+        return Parsed::Refused(Refusal::UnknownKind);
+    }
+    if !is_clear(kind, zero, a, b) {
+        return Parsed::Refused(Refusal::FieldSet);
+    }
+    Parsed::Read(Record {
+        event: event_of(kind, a, b),
+        site,
+    })
+}
+
 // The record in 12 bytes, or the refusal 6 or 7.
 fn read_whole(s: &[u8]) -> Parsed
     requires { ⌜ 12 ≤ length (now s) ⌝ }
     ensures { λ r. ⌜ r ≡ parsed (now (s .entry)) ⌝ }
 {
-    let kind = s[0];
-    if !is_kind(kind) {
-        return Parsed::Refused(Refusal::UnknownKind);
-    }
     let a = range_in(s, 2);
     let b = range_in(s, 6);
-    if !is_clear(kind, s[1], a, b) {
-        return Parsed::Refused(Refusal::FieldSet);
-    }
-    Parsed::Read(Record {
-        event: event_of(kind, a, b),
-        site: u16_in(s, 10),
-    })
+    let site = u16_in(s, 10);
+    read_fields(s[0], s[1], a, b, site)
 }
 
 // The record in the first 12 bytes of a slice, or the refusal 6 or 7. Bytes past the end count as 0.

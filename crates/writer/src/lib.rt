@@ -9,17 +9,16 @@ use file::Started;
 use file::Writer;
 use file::Written;
 ghost use mathlib.Core.Path.{_≡_};
-ghost use mathlib.Core.Bool.{true};
 ghost use mathlib.Core.List.{[], _∷_};
 ghost use Prim.Native.Nat.{_+_, _<_};
 ghost use lib.Dec.{ltb};
 ghost use Rattle.records.specs.Record.{recordSize};
 ghost use Rattle.history.specs.Transaction.{depthAfter};
-ghost use Rattle.history.specs.Refused.{limit, firstBroken, refusalBy};
+ghost use Rattle.history.specs.Refused.{firstBroken, refusalBy};
 ghost use Rattle.trailer.specs.Trailer.{trailerSize, mostBytes};
-ghost use Rattle.file.specs.Limits.{lengthLimit, roomLimit, startLimits};
+ghost use Rattle.file.specs.Limits.{roomLimit, startLimits};
 ghost use Rattle.file.specs.Write.{recordsEnd, viewOf, startedOf, areaStarted, writerAfter, writtenFor, writeCheck, writtenOf, areaWritten};
-ghost use Rattle.file.specs.Write.{bytesWrittenOf, areaBytesWritten, closedOf, areaClosed};
+ghost use Rattle.file.specs.Write.{unreadCheck, parsedWrittenOf, areaParsedWritten, bytesWrittenOf, areaBytesWritten, closedOf, areaClosed};
 
 // Behind the last record.
 fn records_end(w: Writer) -> usize
@@ -155,7 +154,7 @@ pub fn write(area: &mut [u8], w: Writer, r: Record) -> Written
 
 // A refusal of an event that cannot be read: 2 where it applies, else the number that reading gave.
 fn unread(w: Writer, x: Refusal) -> Written
-    ensures { λ r. ⌜ r ≡ writtenFor (firstBroken (lengthLimit (recordsEnd w + recordSize) ∷ limit true x ∷ [])) w Event.Fence ⌝ }
+    ensures { λ r. ⌜ r ≡ writtenFor (unreadCheck w x) w Event.Fence ⌝ }
 {
     let check = if is_full(w) {
         Check::Refused(Refusal::TraceTooLong)
@@ -165,15 +164,23 @@ fn unread(w: Writer, x: Refusal) -> Written
     Written { check, writer: w }
 }
 
-// Writes an event that comes as the bytes of a record: 6 and 7 are looked at after 2 and before 9.
+// Writes an event as it was read: what refused its reading, 6 or 7, is looked at after 2 and before 9.
+pub fn write_parsed(area: &mut [u8], w: Writer, p: Parsed) -> Written
+    ensures { λ x. ⌜ x ≡ parsedWrittenOf (now (area .entry)) w p ⌝ }
+    ensures { λ _. ⌜ now (area .exit) ≡ areaParsedWritten (now (area .entry)) w p ⌝ }
+{
+    match p {
+        Parsed::Refused(x) => unread(w, x),
+        Parsed::Read(r) => write(area, w, r),
+    }
+}
+
+// Writes an event that comes as the bytes of a record.
 pub fn write_bytes(area: &mut [u8], w: Writer, bytes: &[u8]) -> Written
     ensures { λ x. ⌜ x ≡ bytesWrittenOf (now (area .entry)) w (now (bytes .entry)) ⌝ }
     ensures { λ _. ⌜ now (area .exit) ≡ areaBytesWritten (now (area .entry)) w (now (bytes .entry)) ⌝ }
 {
-    match records::read_record(bytes) {
-        Parsed::Refused(x) => unread(w, x),
-        Parsed::Read(r) => write(area, w, r),
-    }
+    write_parsed(area, w, records::read_record(bytes))
 }
 
 // Closes the file: the trailer goes behind the last record. Refused by 13 or else by 15, and the area as it was. The writer does not

@@ -3,9 +3,10 @@ use mathlib.Core.Bool.{Bool, cond, _||_}
 use mathlib.Core.List.{List, [], _∷_, _++_}
 use Prim.Native.Nat.{ℕ, zero, suc, _+_, _*_, _%_, min}
 use lib.Dec.{eqb, leb}
-use lib.ListN.{length, take, drop, getD}
+use lib.ListN.{length, take, drop, getD, set}
 use Rattle.codec.specs.Codec.{u16At, u32At}
 use Rattle.codec.specs.Placed.{placed}
+use Rattle.records.specs.Record.{recordSize, padded}
 use Rattle.file.specs.declared.Writer.{Writer}
 use Rattle.file.specs.declared.Started.{Started}
 use Rattle.file.specs.declared.Started.the-variants.{Refused, Ready}
@@ -22,9 +23,7 @@ afterStart (Refused x) w = w
 
 -- the record in a call
 abbrev pub recordIn : List ℕ → List ℕ
-recordIn s =
-    getD s 0 0 % 64 ∷ getD s 1 0 ∷ getD s 2 0 ∷ getD s 3 0 ∷ getD s 4 0 ∷ getD s 5 0 ∷ getD s 6 0 ∷ getD s 7 0 ∷ getD s 8 0 ∷
-    getD s 9 0 ∷ getD s 10 0 ∷ getD s 11 0 ∷ []
+recordIn s = set (padded recordSize s) 0 (getD s 0 0 % 64)
 
 -- a call that is answered: a start, a closing, an event
 abbrev pub isAnswered : ℕ → Bool

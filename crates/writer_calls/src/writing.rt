@@ -1,6 +1,6 @@
 // The calls of a writer, each with its answer printed; the line goes on with what the call changed.
 use crate::changes;
-use event::Parsed;
+use event::Check;
 use file::Started;
 use file::Writer;
 ghost use mathlib.Core.Path.{_≡_};
@@ -20,13 +20,25 @@ fn writer_of(bytes: &[u8]) -> Writer
     }
 }
 
+// A start with so many lines, and its answer; the line goes on.
+fn print_start(lines: u16, s: Started) {
+    call_lines::field(b"start ", lines);
+    call_lines::reply(replies::of_started(s));
+}
+
+// An event written, and its answer; the line goes on.
+fn print_write(bytes: &[u8], c: Check) {
+    call_lines::record(b"write ", bytes);
+    call_lines::reply(replies::of_check(c));
+}
+
 // A start, and the writer after it.
 fn start(area: &mut [u8], preamble: &[u8], w: Writer, lines: u16) -> Writer
     ensures { λ r. ⌜ r ≡ afterStart (startedOf (now (area .entry)) (now (preamble .entry)) lines) w ⌝ }
     ensures { λ _. ⌜ now (area .exit) ≡ areaStarted (now (area .entry)) (now (preamble .entry)) lines ⌝ }
 {
     let s = writer::start(area, preamble, lines);
-    call_lines::started(lines, s);
+    print_start(lines, s);
     match s {
         Started::Refused(_) => w,
         Started::Ready(next) => next,
@@ -40,13 +52,7 @@ fn write(area: &mut [u8], w: Writer, bytes: &[u8]) -> Writer
 {
     let x = writer::write_bytes(area, w, bytes);
     let check = x.check;
-    match records::read_record(bytes) {
-        Parsed::Refused(_) => call_lines::written_record(check),
-        Parsed::Read(r) => {
-            let e = r.event;
-            call_lines::written(e, check);
-        }
-    }
+    print_write(bytes, check);
     x.writer
 }
 
@@ -55,27 +61,17 @@ fn finish(area: &mut [u8], w: Writer)
     ensures { λ _. ⌜ now (area .exit) ≡ areaClosed (now (area .entry)) w ⌝ }
 {
     let c = writer::close(area, w);
-    call_lines::finished(c);
+    call_lines::words(b"finish");
+    call_lines::reply(replies::of_closed(c));
 }
 
 // The record in the 12 bytes of a call: its kind is the call's less 64, or a multiple of it.
 fn record_in(bytes: &[u8]) -> [u8; 12]
     ensures { λ r. ⌜ r ≡ recordIn (now (bytes .entry)) ⌝ }
 {
-    [
-        codec::byte_at(bytes, 0) % 64,
-        codec::byte_at(bytes, 1),
-        codec::byte_at(bytes, 2),
-        codec::byte_at(bytes, 3),
-        codec::byte_at(bytes, 4),
-        codec::byte_at(bytes, 5),
-        codec::byte_at(bytes, 6),
-        codec::byte_at(bytes, 7),
-        codec::byte_at(bytes, 8),
-        codec::byte_at(bytes, 9),
-        codec::byte_at(bytes, 10),
-        codec::byte_at(bytes, 11),
-    ]
+    let mut record = records::padded(bytes);
+    record[0] = record[0] % 64;
+    record
 }
 
 // Whether the call is answered: those that set a writer, its area or its preamble have no line.

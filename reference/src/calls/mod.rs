@@ -10,6 +10,7 @@ mod count;
 mod drawn;
 mod exposures;
 mod no_bytes;
+mod numbers;
 mod shared;
 mod writer_drawn;
 mod writer_written;
@@ -133,9 +134,14 @@ impl Calls {
         self.calls().flat_map(Call::to_bytes).collect()
     }
 
-    /// The text of the answers.
+    /// The text of the answers, in words.
     pub fn text(&self) -> String {
         self.entries.iter().map(Entry::text).collect()
+    }
+
+    /// The same in numbers, as the program prints it.
+    pub fn numbers(&self) -> String {
+        self.entries.iter().map(Entry::numbers).collect()
     }
 }
 
@@ -149,12 +155,21 @@ pub fn read(bytes: &[u8]) -> Option<Vec<Call>> {
 }
 
 impl Entry {
-    /// A line for each answer.
+    /// A line for each answer, in words.
     pub fn text(&self) -> String {
+        self.lines(|call, answer| format!("{call}: {answer}"))
+    }
+
+    /// The same in numbers.
+    pub fn numbers(&self) -> String {
+        self.lines(numbers::line)
+    }
+
+    fn lines(&self, line: impl Fn(Call, &Answer) -> String) -> String {
         let mut text = String::new();
-        for (call, answer) in self.case.calls.iter().zip(&self.answers) {
+        for (&call, answer) in self.case.calls.iter().zip(&self.answers) {
             if let Some(answer) = answer {
-                writeln!(text, "{call}: {answer}").expect("a string takes text");
+                writeln!(text, "{}", line(call, answer)).expect("a string takes text");
             }
         }
         text

@@ -124,7 +124,7 @@ impl Answer {
     pub fn to_bytes(&self) -> Vec<u8> {
         let Answer { findings, room, .. } = self;
         let answer = match self.result {
-            Ok(length) => format!("length {length}"),
+            Ok(length) => length.to_string(),
             Err(Refused { number, position }) => format!("refused {number} at {position}"),
         };
         let sum = self.sum;

@@ -7,11 +7,11 @@ use Rattle.engine_runs.proofs.calls.fresh.Tie as tie
 fresh-requires : tie.Need-fresh-requires
 fresh-requires c κs = search needs
 
-fresh-requires-2 : tie.Need-fresh-requires-2
-fresh-requires-2 c κs = search needs
+print-fresh-requires : tie.Need-print-fresh-requires
+print-fresh-requires c κs = search needs
 
 returns : tie.Need-returns
 returns c = rw (c .before .before .fresh .ensures)
 
 pub fresh-spec : {M : Type 1} → statement M
-fresh-spec = tie.close (tie.spec fresh-requires fresh-requires-2 returns)
+fresh-spec = tie.close (tie.spec fresh-requires print-fresh-requires returns)

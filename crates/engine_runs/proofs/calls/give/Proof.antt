@@ -11,8 +11,8 @@ read-record-requires c κs = search needs
 enum-known-x : tie.Need-enum-known-x
 enum-known-x c = search needs
 
-unread-requires : tie.Need-unread-requires
-unread-requires c κs = search needs
+print-given-requires : tie.Need-print-given-requires
+print-given-requires c κs = search needs
 
 enum-known-r : tie.Need-enum-known-r
 enum-known-r c = search needs
@@ -20,8 +20,8 @@ enum-known-r c = search needs
 give-requires : tie.Need-give-requires
 give-requires c κs = search needs
 
-given-requires : tie.Need-given-requires
-given-requires c κs = search needs
+print-given-requires-2 : tie.Need-print-given-requires-2
+print-given-requires-2 c κs = search needs
 
 returns : tie.Need-returns
 returns c = let x = c .before .before in rw (equal-by (x .before .before .read-record .ensures) (x .x .given .1))
@@ -35,9 +35,9 @@ give-spec =
     (tie.spec
     read-record-requires
     enum-known-x
-    unread-requires
+    print-given-requires
     enum-known-r
     give-requires
-    given-requires
+    print-given-requires-2
     returns
     returns-2)

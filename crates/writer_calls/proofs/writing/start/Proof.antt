@@ -8,8 +8,8 @@ use Rattle.writer_calls.proofs.writing.start.Tie as tie
 start-requires : tie.Need-start-requires
 start-requires c κs = search needs
 
-started-requires : tie.Need-started-requires
-started-requires c κs = search needs
+print-start-requires : tie.Need-print-start-requires
+print-start-requires c κs = search needs
 
 enum-told : tie.Need-enum-told
 enum-told c = search needs
@@ -38,7 +38,7 @@ start-spec =
     tie.close
     (tie.spec
     start-requires
-    started-requires
+    print-start-requires
     enum-told
     enum-known-s
     same-length

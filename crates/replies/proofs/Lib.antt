@@ -1,0 +1,2 @@
+-- Laws on the numbers of answers.
+pub mod Meaning  -- worked answers

@@ -1,0 +1,2 @@
+-- Answers as numbers.
+pub mod Numbers  -- the numbers of an answer
