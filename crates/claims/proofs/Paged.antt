@@ -14,11 +14,11 @@ use Rattle.finding_lines.specs.Lines.{isPrinted}
 use Rattle.page_lines.specs.Lines.{heading, rowLine, foot}
 use Rattle.page_lines.specs.Line.{Line}
 use Rattle.page_lines.proofs.Columns.{row-line, heading-line, foot-line}
-use Rattle.pages.specs.Pages.{perPage, pageCount, findingsIn, shownIn, pagesOf}
-use Rattle.pages.specs.Printed.{pageAt, rowsPrinted}
-use Rattle.pages.proofs.Size.{AllHeld, rows-held, held-take, held-drop, enough-pages, pages-length}
-use Rattle.pages.proofs.Printed.{pageLines, allLines, cut-pages, page-at, rows-printed}
-use Rattle.pages.proofs.Listed.{rows-squeezed}
+use Rattle.page_layout.specs.Pages.{perPage, pageCount, findingsIn, shownIn, pagesOf}
+use Rattle.page_layout.specs.Printed.{pageAt, rowsPrinted}
+use Rattle.page_layout.proofs.Size.{AllHeld, rows-held, held-take, held-drop, enough-pages, pages-length}
+use Rattle.page_layout.proofs.Printed.{pageLines, allLines, cut-pages, page-at, rows-printed}
+use Rattle.page_layout.proofs.Listed.{rows-squeezed}
 use Rattle.claims.specs.FindingsPaged.{linesOf, pagesIn, rowsOf, Printed}
 
 -- a kind that is not refused is shown unless it is 0

@@ -11,9 +11,9 @@ use Rattle.event.specs.Numbers.{numberOf}
 use Rattle.event.specs.Reply.{Reply}
 use Rattle.history.specs.Refused.{First, NoneBroken}
 use Rattle.history.proofs.Given.{first-broken, none-broken}
+use Rattle.page_layout.specs.Pages.{findingsIn, pagesOf}
 use Rattle.pages.specs.declared.Paged.{Paged}
 use Rattle.pages.specs.declared.Paged.the-variants.{Refused, Written}
-use Rattle.pages.specs.Pages.{findingsIn, pagesOf}
 use Rattle.pages.specs.Limits.{wholeLimits, damageLimits, roomLimits}
 use Rattle.pages.specs.Paged.{unlessDamaged, inRoom, pagedOf, pagedReply, pageAreaAfter}
 use Rattle.claims.specs.Paging.{NoneDamaged, DamagedFirst, NotPaged}

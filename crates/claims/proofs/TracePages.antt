@@ -30,11 +30,11 @@ use Rattle.finding_lines.proofs.Listed.{lines-cut}
 use Rattle.listing.specs.Report.{findingLines, reportFor, reportOf}
 use Rattle.listing.proofs.Area.{byte-after, AllFound, lines-read, each-found, events-few}
 use Rattle.page_lines.proofs.Columns.{row-line, heading-line, foot-line}
-use Rattle.pages.specs.Pages.{findingsIn, shownIn, pagesOf}
+use Rattle.page_layout.specs.Pages.{findingsIn, shownIn, pagesOf}
+use Rattle.page_layout.specs.Printed.{inner}
+use Rattle.page_layout.proofs.Printed.{inner-between}
 use Rattle.pages.specs.Limits.{badLength, wholeLimits, damageLimits}
-use Rattle.pages.specs.Printed.{inner}
 use Rattle.pages.proofs.Whole.{few-findings}
-use Rattle.pages.proofs.Printed.{inner-between}
 use Rattle.claims.specs.Paging.{NoneDamaged}
 use Rattle.claims.specs.FindingsPaged.{Printed, TracePaged, FindingsPaged}
 use Rattle.claims.proofs.Fits.{kind-known, findings-bytes}

@@ -37,7 +37,7 @@ use Rattle.file.specs.declared.Started.the-variants.{Ready}
 use Rattle.file.specs.Limits.{startLimits, writeLimits, bytesLimits, closeLimits}
 use Rattle.file.specs.Write.{writerWith, recordsEnd, viewOf, startedOf, areaStarted, writtenOf, areaWritten, bytesWrittenOf, areaBytesWritten, closedOf, areaClosed}
 use Rattle.file.specs.Reply.{startReply, writtenReply, closedReply}
-use Rattle.pages.specs.Pages.{findingsIn, pagesOf}
+use Rattle.page_layout.specs.Pages.{findingsIn, pagesOf}
 use Rattle.pages.specs.Limits.{wholeLimits, damageLimits, roomLimits}
 use Rattle.pages.specs.Paged.{pagedOf, pagedReply, pageAreaAfter}
 use Rattle.claims.specs.After.{runFrom, takenFrom}

@@ -18,10 +18,10 @@ use Rattle.finding_lines.specs.Area.{lineOf}
 use Rattle.listing.specs.Report.{reportOf}
 use Rattle.page_lines.specs.Lines.{heading, rowLine, foot}
 use Rattle.page_lines.specs.Line.{Line, Held}
-use Rattle.pages.specs.Pages.{perPage, pageCount, shownIn, pagesOf}
+use Rattle.page_layout.specs.Pages.{perPage, pageCount, shownIn, pagesOf}
+use Rattle.page_layout.specs.Printed.{pageAt, inner, rowsPrinted}
 use Rattle.pages.specs.Limits.{wholeLimits}
 use Rattle.pages.specs.Paged.{pagedOf, pagedReply}
-use Rattle.pages.specs.Printed.{pageAt, inner, rowsPrinted}
 
 -- the lines of an area's pages, how many pages there are, and the findings on the page that has so many before it
 abbrev pub linesOf : List ℕ → List (List ℕ)

@@ -6,7 +6,7 @@ use lib.ListN.{length}
 use Rattle.event.specs.declared.Refusal.{Refusal}
 use Rattle.event.specs.Reply.{Reply}
 use Rattle.history.specs.Refused.{First, NoneBroken}
-use Rattle.pages.specs.Pages.{findingsIn}
+use Rattle.page_layout.specs.Pages.{findingsIn}
 use Rattle.pages.specs.Limits.{damageLimits}
 use Rattle.pages.specs.Paged.{pagedOf, pagedReply, pageAreaAfter}
 

@@ -1,9 +1,3 @@
--- Laws of the pages.
-pub mod Rows  -- the findings of an area that are shown, one after another
+-- Laws of the answer to a findings area and a page area.
 pub mod Undamaged  -- the findings of an area, checked one after another
-pub mod Turns  -- the pages, one after another
-pub mod Size  -- how long the pages are
 pub mod Whole  -- the answer, from what the parts of the code answer
-pub mod Printed  -- the pages, cut into lines
-pub mod Listed  -- the lines of the pages with their blanks squeezed are those of the listing
-pub mod Meaning  -- the page of the whole run of document 01

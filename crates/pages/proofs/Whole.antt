@@ -18,12 +18,12 @@ use Rattle.codec.specs.Codec.{findingSize}
 use Rattle.text.specs.Text.{Out, out, put}
 use Rattle.text.proofs.Filled.{filled}
 use Rattle.finding_lines.specs.Rows.{rowsFrom}
+use Rattle.page_layout.specs.Pages.{pagesFrom, pageCount, findingsIn, shownIn, pagesOf}
+use Rattle.page_layout.proofs.Size.{pages-length}
 use Rattle.pages.specs.declared.Paged.{Paged}
 use Rattle.pages.specs.declared.Paged.the-variants.{Refused, Written}
-use Rattle.pages.specs.Pages.{pagesFrom, pageCount, findingsIn, shownIn, pagesOf}
 use Rattle.pages.specs.Limits.{badLength, wholeLimits, damageLimits}
 use Rattle.pages.specs.Paged.{unlessBroken, unlessDamaged, inRoom, pagedOf, pageAreaAfter}
-use Rattle.pages.proofs.Size.{pages-length}
 
 -- pages in a page area that is too short, and in one that is not
 pub too-short : (room size : ℕ) → room < size → Refused PageAreaTooShort 0 ≡ inRoom room size

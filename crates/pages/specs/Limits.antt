@@ -7,7 +7,7 @@ use lib.ListN.{length, getD}
 use Rattle.event.specs.declared.Refusal.the-variants.{LengthDiffers, UnknownKind, FieldSet, PageAreaTooShort}
 use Rattle.codec.specs.Codec.{findingSize}
 use Rattle.history.specs.Refused.{Limit, limit, mostEvents}
-use Rattle.pages.specs.Pages.{findingsIn}
+use Rattle.page_layout.specs.Pages.{findingsIn}
 
 -- no whole number of findings, or more than 65,535, since event numbers have 16 bits
 abbrev pub badLength : List ℕ → Bool

@@ -7,9 +7,9 @@ use Rattle.event.specs.declared.Check.the-variants.{Passed, Refused as Breaks}
 use Rattle.event.specs.Numbers.{numberOf}
 use Rattle.event.specs.Reply.{Reply}
 use Rattle.history.specs.Refused.{firstBroken}
+use Rattle.page_layout.specs.Pages.{findingsIn, pagesOf}
 use Rattle.pages.specs.declared.Paged.{Paged}
 use Rattle.pages.specs.declared.Paged.the-variants.{Refused, Written}
-use Rattle.pages.specs.Pages.{findingsIn, pagesOf}
 use Rattle.pages.specs.Limits.{wholeLimits, damageLimits, roomLimits}
 
 -- where a check passes, the rest decides; where it does not, the area is refused at this position

@@ -10,9 +10,9 @@ use Rattle.event.specs.Numbers.{numberOf}
 use Rattle.text.specs.Text.{out, put}
 use Rattle.text.proofs.Filled.{filled}
 use Rattle.lines.specs.Lines.{refusalLine}
+use Rattle.page_layout.specs.Pages.{pagesOf}
 use Rattle.pages.specs.declared.Paged.{Paged}
 use Rattle.pages.specs.declared.Paged.the-variants.{Refused, Written}
-use Rattle.pages.specs.Pages.{pagesOf}
 use Rattle.pages.specs.Paged.{pagedOf, pageAreaAfter}
 use Rattle.pages.proofs.Whole.{is-written}
 use Rattle.pmpages.specs.Report.{reportOf}

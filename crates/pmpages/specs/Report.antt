@@ -3,9 +3,9 @@ use mathlib.Core.List.{List}
 use Prim.Native.Nat.{ℕ}
 use Rattle.event.specs.Numbers.{numberOf}
 use Rattle.lines.specs.Lines.{refusalLine}
+use Rattle.page_layout.specs.Pages.{pagesOf}
 use Rattle.pages.specs.declared.Paged.{Paged}
 use Rattle.pages.specs.declared.Paged.the-variants.{Refused, Written}
-use Rattle.pages.specs.Pages.{pagesOf}
 use Rattle.pages.specs.Paged.{pagedOf}
 
 abbrev pub reportFor : Paged → List ℕ → List ℕ

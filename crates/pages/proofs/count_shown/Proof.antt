@@ -6,7 +6,7 @@ use native.Mathlib.Omega.{arith}
 use lib.ListN.{length}
 use borrow.Author.Needs.{needs}
 use Rattle.finding_lines.specs.Rows.{rowsFrom}
-use Rattle.pages.proofs.Rows.{rows-done, count-next, at-most-one}
+use Rattle.page_layout.proofs.Rows.{rows-done, count-next, at-most-one}
 use Rattle.pages.proofs.count_shown.Statement.{statement}
 use Rattle.pages.proofs.count_shown.Tie as tie
 

@@ -12,8 +12,8 @@ use Rattle.finding_lines.specs.Rows.{rowAt, ifShown, rowsFrom}
 use Rattle.text.specs.Text.{Out, put}
 use Rattle.text.proofs.Puts.{put-append}
 use Rattle.page_lines.specs.Lines.{rowLine}
-use Rattle.pages.specs.Pages.{rowLines}
-use Rattle.pages.specs.Rows.{shown, lineIfShown}
+use Rattle.page_layout.specs.Pages.{rowLines}
+use Rattle.page_layout.specs.Rows.{shown, lineIfShown}
 
 -- from one finding on: it, if it is shown, and then those after it
 module _ (findings : List ℕ) (i count : ℕ) where

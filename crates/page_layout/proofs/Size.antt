@@ -12,7 +12,7 @@ use Rattle.finding_lines.specs.Rows.{rowAt, rowsFrom}
 use Rattle.page_lines.specs.Lines.{heading, rowLine, foot}
 use Rattle.page_lines.specs.Line.{Held}
 use Rattle.page_lines.proofs.Columns.{line-length, row-line, heading-line, foot-line}
-use Rattle.pages.specs.Pages.{perPage, rowLines, page, pagesFrom, pageCount, findingsIn, shownIn, pagesOf}
+use Rattle.page_layout.specs.Pages.{perPage, rowLines, page, pagesFrom, pageCount, findingsIn, shownIn, pagesOf}
 
 -- findings that 16 bits can hold
 pub data AllHeld : List Row → Type 0 where

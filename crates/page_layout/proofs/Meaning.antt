@@ -6,7 +6,7 @@ use Rattle.codec.specs.Codec.{findingBytes}
 use Rattle.text.specs.Text.{ascii, decimalIn}
 use Rattle.finding_lines.specs.Rows.{rowsFrom}
 use Rattle.page_lines.specs.Lines.{values, columns, heading, rowLine, foot}
-use Rattle.pages.specs.Pages.{rowLines, page, pagesFrom, pagesOf}
+use Rattle.page_layout.specs.Pages.{rowLines, page, pagesFrom, pagesOf}
 
 pub whole-run : pagesOf (
     findingBytes None 10 ++ findingBytes None 11 ++ findingBytes None 12 ++ findingBytes None 13 ++ findingBytes (OutOfOrder 0 64 2 1) 14 ++

@@ -13,7 +13,7 @@ use Rattle.finding_lines.specs.Area.{lineOf}
 use Rattle.finding_lines.proofs.Listed.{line-shown}
 use Rattle.page_lines.specs.Lines.{rowLine}
 use Rattle.page_lines.proofs.Squeezed.{row-squeezed}
-use Rattle.pages.proofs.Size.{row-held}
+use Rattle.page_layout.proofs.Size.{row-held}
 
 pub rows-squeezed : (findings : List ℕ) → ((i : ℕ) → getD findings i 0 < 256) → (before count : ℕ) → before + count ≤ 65535 →
     map squeezed (map rowLine (rowsFrom before count findings)) ≡ map lineOf (rowsFrom before count findings)

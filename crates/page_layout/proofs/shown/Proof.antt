@@ -1,8 +1,8 @@
--- `pages::shown` meets its contract: it goes by what the test of the kind says. Assumes nothing.
-use Rattle.pages.proofs.Rows.{one-shown, none-shown}
+-- `page_layout::shown` meets its contract: it goes by what the test of the kind says. Assumes nothing.
+use Rattle.page_layout.proofs.Rows.{one-shown, none-shown}
 use borrow.Author.Needs.{needs}
-use Rattle.pages.proofs.shown.Statement.{statement}
-use Rattle.pages.proofs.shown.Tie as tie
+use Rattle.page_layout.proofs.shown.Statement.{statement}
+use Rattle.page_layout.proofs.shown.Tie as tie
 
 is-printed-requires : tie.Need-is-printed-requires
 is-printed-requires c κs = search needs

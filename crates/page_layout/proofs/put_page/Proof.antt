@@ -1,14 +1,14 @@
--- `pages::put_page` meets its contract: its parts are put one after another. Assumes nothing.
+-- `page_layout::put_page` meets its contract: its parts are put one after another. Assumes nothing.
 use lib.ListN.{take}
 use Prim.Native.Nat.{_-_}
 use Rattle.text.specs.Text.{out}
 use Rattle.text.proofs.Puts.{three}
 use Rattle.finding_lines.specs.Rows.{rowsFrom}
 use Rattle.page_lines.specs.Lines.{heading, foot}
-use Rattle.pages.specs.Pages.{perPage, rowLines, page}
+use Rattle.page_layout.specs.Pages.{perPage, rowLines, page}
 use borrow.Author.Needs.{needs}
-use Rattle.pages.proofs.put_page.Statement.{statement}
-use Rattle.pages.proofs.put_page.Tie as tie
+use Rattle.page_layout.proofs.put_page.Statement.{statement}
+use Rattle.page_layout.proofs.put_page.Tie as tie
 
 heading-requires : tie.Need-heading-requires
 heading-requires c κs = search needs

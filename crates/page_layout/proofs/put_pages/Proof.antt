@@ -1,4 +1,4 @@
--- `pages::put_pages` meets its contract: the pages that are left lead to what all of them do. Assumes nothing.
+-- `page_layout::put_pages` meets its contract: the pages that are left lead to what all of them do. Assumes nothing.
 use mathlib.Core.Path.{_≡_, refl, sym, _∙_}
 use Prim.Native.Nat.{_+_, _-_, _≤_}
 use native.Mathlib.Nat.{sub-zero}
@@ -7,10 +7,10 @@ use lib.ListN.{length}
 use borrow.Author.Needs.{needs}
 use Rattle.text.specs.Text.{out, put}
 use Rattle.finding_lines.specs.Rows.{rowsFrom}
-use Rattle.pages.specs.Pages.{pagesFrom}
-use Rattle.pages.proofs.Turns.{page-turn, pages-done}
-use Rattle.pages.proofs.put_pages.Statement.{statement}
-use Rattle.pages.proofs.put_pages.Tie as tie
+use Rattle.page_layout.specs.Pages.{pagesFrom}
+use Rattle.page_layout.proofs.Turns.{page-turn, pages-done}
+use Rattle.page_layout.proofs.put_pages.Statement.{statement}
+use Rattle.page_layout.proofs.put_pages.Tie as tie
 
 abbrev Inv-loop : tie.InvT-loop
 Inv-loop text₀ findings count pages place₀ i₀ text place i =

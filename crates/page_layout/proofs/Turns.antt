@@ -7,7 +7,7 @@ use lib.ListN.{take, drop}
 use Rattle.finding_lines.specs.declared.Row.{Row}
 use Rattle.text.specs.Text.{Out, put}
 use Rattle.text.proofs.Puts.{put-append}
-use Rattle.pages.specs.Pages.{perPage, page, pagesFrom}
+use Rattle.page_layout.specs.Pages.{perPage, page, pagesFrom}
 
 module _ (i pages : ℕ) (rows : List Row) (o : Out) where
   -- a page, and those after it with the findings that are left

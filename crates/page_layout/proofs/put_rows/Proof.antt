@@ -1,4 +1,4 @@
--- `pages::put_rows` meets its contract: what is left for the page leads to what all of it does. Assumes nothing.
+-- `page_layout::put_rows` meets its contract: what is left for the page leads to what all of it does. Assumes nothing.
 use mathlib.Core.Path.{_≡_, refl, sym, _∙_}
 use Prim.Native.Nat.{_-_}
 use native.Mathlib.Omega.{arith}
@@ -7,10 +7,10 @@ use borrow.Author.Needs.{needs}
 use borrow.Author.Tests.{ltb-true, ltb-false}
 use Rattle.text.specs.Text.{out, put}
 use Rattle.finding_lines.specs.Rows.{rowsFrom}
-use Rattle.pages.specs.Pages.{perPage, rowLines}
-use Rattle.pages.proofs.Rows.{page-next, left-next, at-most-one, none-left, none-after, page-full, all-after}
-use Rattle.pages.proofs.put_rows.Statement.{statement}
-use Rattle.pages.proofs.put_rows.Tie as tie
+use Rattle.page_layout.specs.Pages.{perPage, rowLines}
+use Rattle.page_layout.proofs.Rows.{page-next, left-next, at-most-one, none-left, none-after, page-full, all-after}
+use Rattle.page_layout.proofs.put_rows.Statement.{statement}
+use Rattle.page_layout.proofs.put_rows.Tie as tie
 
 abbrev Inv-loop : tie.InvT-loop
 Inv-loop text₀ at findings before count next₀ i₀ free₀ text next i free =

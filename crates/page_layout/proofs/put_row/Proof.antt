@@ -1,9 +1,9 @@
--- `pages::put_row` meets its contract: the line is put where the kind is shown, else nothing. Assumes nothing.
+-- `page_layout::put_row` meets its contract: the line is put where the kind is shown, else nothing. Assumes nothing.
 use Rattle.text.specs.Text.{out}
-use Rattle.pages.proofs.Rows.{line-put, no-line}
+use Rattle.page_layout.proofs.Rows.{line-put, no-line}
 use borrow.Author.Needs.{needs}
-use Rattle.pages.proofs.put_row.Statement.{statement}
-use Rattle.pages.proofs.put_row.Tie as tie
+use Rattle.page_layout.proofs.put_row.Statement.{statement}
+use Rattle.page_layout.proofs.put_row.Tie as tie
 
 is-printed-requires : tie.Need-is-printed-requires
 is-printed-requires c κs = search needs

@@ -11,9 +11,9 @@ use Rattle.finding_lines.specs.declared.Row.{Row}
 use Rattle.page_lines.specs.Lines.{heading, rowLine, foot}
 use Rattle.page_lines.specs.Line.{Line}
 use Rattle.page_lines.proofs.Columns.{row-line, heading-line, foot-line}
-use Rattle.pages.specs.Pages.{perPage, rowLines, page, pagesFrom}
-use Rattle.pages.specs.Printed.{linesPerPage, pageAt, inner, rowsPrinted}
-use Rattle.pages.proofs.Size.{AllHeld, held-take, held-drop}
+use Rattle.page_layout.specs.Pages.{perPage, rowLines, page, pagesFrom}
+use Rattle.page_layout.specs.Printed.{linesPerPage, pageAt, inner, rowsPrinted}
+use Rattle.page_layout.proofs.Size.{AllHeld, held-take, held-drop}
 
 -- a line, and what comes behind it
 cut-one : {s : List ℕ} → Line s → (rest : List ℕ) → cut (s ++ rest) ≡ s ∷ cut rest
