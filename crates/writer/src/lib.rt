@@ -9,63 +9,18 @@ use file::Started;
 use file::Writer;
 use file::Written;
 ghost use mathlib.Core.Path.{_≡_};
-ghost use mathlib.Core.List.{[], _∷_};
-ghost use Prim.Native.Nat.{_+_, _<_};
-ghost use lib.Dec.{ltb};
-ghost use Rattle.records.specs.Record.{recordSize};
+ghost use Prim.Native.Nat.{_<_};
 ghost use Rattle.history.specs.Transaction.{depthAfter};
-ghost use Rattle.history.specs.Refused.{firstBroken, refusalBy};
-ghost use Rattle.trailer.specs.Trailer.{trailerSize, mostBytes};
-ghost use Rattle.file.specs.Limits.{roomLimit, startLimits};
-ghost use Rattle.file.specs.Write.{recordsEnd, viewOf, startedOf, areaStarted, writerAfter, writtenFor, writeCheck, writtenOf, areaWritten};
+ghost use Rattle.history.specs.Refused.{refusalBy};
+ghost use Rattle.file.specs.Write.{viewOf, startedOf, areaStarted, writerAfter, writtenFor, writtenOf, areaWritten};
 ghost use Rattle.file.specs.Write.{unreadCheck, parsedWrittenOf, areaParsedWritten, bytesWrittenOf, areaBytesWritten, closedOf, areaClosed};
-
-// Behind the last record.
-fn records_end(w: Writer) -> usize
-    ensures { λ n. ⌜ n ≡ recordsEnd w ⌝ }
-{
-    (w.offset as usize) + 12 * (w.count as usize)
-}
-
-// The limit 2: whether a file whose trailer stands behind this place is too long.
-fn is_too_long(end: usize) -> bool
-    ensures { λ t. ⌜ t ≡ ltb mostBytes (end + trailerSize) ⌝ }
-{
-    65536 - 16 < end
-}
-
-// The limit 15: whether the area has room for bytes that end at this place.
-fn check_room(room: usize, end: usize) -> Check
-    ensures { λ c. ⌜ c ≡ firstBroken (roomLimit room end ∷ []) ⌝ }
-{
-    if room < end {
-        Check::Refused(Refusal::FileAreaTooShort)
-    } else {
-        Check::Passed
-    }
-}
-
-// The limits on a start: 4, 2, 15.
-fn check_start(room: usize, preamble: usize, lines: u16) -> Check
-    ensures { λ c. ⌜ c ≡ firstBroken (startLimits room preamble lines) ⌝ }
-{
-    match window::check_lines(lines) {
-        Check::Refused(x) => Check::Refused(x),
-        Check::Passed => {
-            if is_too_long(preamble) {
-                return Check::Refused(Refusal::TraceTooLong);
-            }
-            check_room(room, preamble)
-        }
-    }
-}
 
 // Starts a file: its preamble goes to the area's start. Refused by the first of 4, 2, 15 that applies, and the area as it was.
 pub fn start(area: &mut [u8], preamble: &[u8], lines: u16) -> Started
     ensures { λ r. ⌜ r ≡ startedOf (now (area .entry)) (now (preamble .entry)) lines ⌝ }
     ensures { λ _. ⌜ now (area .exit) ≡ areaStarted (now (area .entry)) (now (preamble .entry)) lines ⌝ }
 {
-    match check_start(area.len(), preamble.len(), lines) {
+    match file_limits::check_start(area.len(), preamble.len(), lines) {
         Check::Refused(x) => Started::Refused(x),
         Check::Passed => {
             codec::put(area, 0, preamble);
@@ -76,26 +31,6 @@ pub fn start(area: &mut [u8], preamble: &[u8], lines: u16) -> Started
                 depth: 0,
             })
         }
-    }
-}
-
-// The limit 2 on an event: whether the file with one record more is too long.
-fn is_full(w: Writer) -> bool
-    ensures { λ t. ⌜ t ≡ ltb mostBytes (recordsEnd w + recordSize + trailerSize) ⌝ }
-{
-    is_too_long(records_end(w) + 12)
-}
-
-// The limits on an event: 2; 9, 18, 10 to 12; 15.
-fn check_write(room: usize, w: Writer, e: Event) -> Check
-    ensures { λ c. ⌜ c ≡ writeCheck room w e ⌝ }
-{
-    if is_full(w) {
-        return Check::Refused(Refusal::TraceTooLong);
-    }
-    match limits::check_event(w.lines, w.count as u16, w.depth, e) {
-        Check::Refused(x) => Check::Refused(x),
-        Check::Passed => check_room(room, records_end(w) + 12),
     }
 }
 
@@ -136,14 +71,14 @@ pub fn write(area: &mut [u8], w: Writer, r: Record) -> Written
     ensures { λ _. ⌜ now (area .exit) ≡ areaWritten (now (area .entry)) w r ⌝ }
 {
     let e = r.event;
-    match check_write(area.len(), w, e) {
+    match file_limits::check_write(area.len(), w, e) {
         Check::Refused(x) => Written {
             check: Check::Refused(x),
             writer: w,
         },
         Check::Passed => {
             let bytes = layout::record_bytes(r);
-            codec::put(area, records_end(w), &bytes);
+            codec::put(area, file_limits::records_end(w), &bytes);
             Written {
                 check: Check::Passed,
                 writer: next(w, e),
@@ -156,7 +91,7 @@ pub fn write(area: &mut [u8], w: Writer, r: Record) -> Written
 fn unread(w: Writer, x: Refusal) -> Written
     ensures { λ r. ⌜ r ≡ writtenFor (unreadCheck w x) w Event.Fence ⌝ }
 {
-    let check = if is_full(w) {
+    let check = if file_limits::is_full(w) {
         Check::Refused(Refusal::TraceTooLong)
     } else {
         Check::Refused(x)
@@ -192,8 +127,8 @@ pub fn close(area: &mut [u8], w: Writer) -> Closed
     if w.depth != 0 {
         return Closed::Refused(Refusal::TransactionOpen);
     }
-    let at = records_end(w);
-    match check_room(area.len(), at + 16) {
+    let at = file_limits::records_end(w);
+    match file_limits::check_room(area.len(), at + 16) {
         Check::Refused(x) => Closed::Refused(x),
         Check::Passed => {
             let bytes = layout::trailer_bytes(w.offset, w.count, w.lines);

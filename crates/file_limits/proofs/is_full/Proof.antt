@@ -1,4 +1,4 @@
--- `writer::is_full` meets its contract: the place behind one record more is tested.
+-- `file_limits::is_full` meets its contract: the place behind one record more is tested.
 -- Assumes nothing.
 use mathlib.Core.Path.{ap, _∙_}
 use Prim.Native.Nat.{ℕ, _+_}
@@ -6,8 +6,8 @@ use lib.Dec.{ltb}
 use Rattle.records.specs.Record.{recordSize}
 use Rattle.trailer.specs.Trailer.{trailerSize, mostBytes}
 use borrow.Author.Needs.{needs}
-use Rattle.writer.proofs.is_full.Statement.{statement}
-use Rattle.writer.proofs.is_full.Tie as tie
+use Rattle.file_limits.proofs.is_full.Statement.{statement}
+use Rattle.file_limits.proofs.is_full.Tie as tie
 
 records-end-requires : tie.Need-records-end-requires
 records-end-requires c κs = search needs

@@ -1,4 +1,4 @@
--- `writer::check_write` meets its contract: 2, then the event's own limits, then 15.
+-- `file_limits::check_write` meets its contract: 2, then the event's own limits, then 15.
 -- Assumes nothing.
 use mathlib.Core.Path.{ap, _∙_}
 use mathlib.Core.List.{[], _∷_}
@@ -13,8 +13,8 @@ use Rattle.file.specs.Limits.{roomLimit}
 use Rattle.file.specs.Write.{recordsEnd}
 use Rattle.file.proofs.Outcomes.{write-long, write-refused, write-passed}
 use borrow.Author.Needs.{needs}
-use Rattle.writer.proofs.check_write.Statement.{statement}
-use Rattle.writer.proofs.check_write.Tie as tie
+use Rattle.file_limits.proofs.check_write.Statement.{statement}
+use Rattle.file_limits.proofs.check_write.Tie as tie
 
 is-full-requires : tie.Need-is-full-requires
 is-full-requires c κs = search needs

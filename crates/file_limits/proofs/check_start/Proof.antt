@@ -1,4 +1,4 @@
--- `writer::check_start` meets its contract: 4, then 2, then 15.
+-- `file_limits::check_start` meets its contract: 4, then 2, then 15.
 -- Assumes nothing.
 use borrow.Author.Needs.{needs}
 use mathlib.Core.List.{List, [], _∷_}
@@ -9,8 +9,8 @@ use Rattle.window.specs.Window.{badLines}
 use Rattle.history.specs.Refused.{Limit, limit}
 use Rattle.file.specs.Limits.{lengthLimit, roomLimit}
 use Rattle.limits.proofs.Parts.{part-refused, part-passed}
-use Rattle.writer.proofs.check_start.Statement.{statement}
-use Rattle.writer.proofs.check_start.Tie as tie
+use Rattle.file_limits.proofs.check_start.Statement.{statement}
+use Rattle.file_limits.proofs.check_start.Tie as tie
 
 -- the limit 4
 abbrev linesLimit : ℕ → List Limit

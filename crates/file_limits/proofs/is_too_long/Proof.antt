@@ -1,9 +1,9 @@
--- `writer::is_too_long` meets its contract.
+-- `file_limits::is_too_long` meets its contract.
 -- Assumes nothing.
 use borrow.Author.Needs.{needs}
 use Rattle.file.proofs.Length.{length-tested}
-use Rattle.writer.proofs.is_too_long.Statement.{statement}
-use Rattle.writer.proofs.is_too_long.Tie as tie
+use Rattle.file_limits.proofs.is_too_long.Statement.{statement}
+use Rattle.file_limits.proofs.is_too_long.Tie as tie
 
 sub-result : tie.Need-sub-result
 sub-result c = search needs

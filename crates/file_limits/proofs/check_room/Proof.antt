@@ -1,8 +1,8 @@
--- `writer::check_room` meets its contract.
+-- `file_limits::check_room` meets its contract.
 -- Assumes nothing.
 use borrow.Author.Tests.{lt-ltb, le-ltb}
-use Rattle.writer.proofs.check_room.Statement.{statement}
-use Rattle.writer.proofs.check_room.Tie as tie
+use Rattle.file_limits.proofs.check_room.Statement.{statement}
+use Rattle.file_limits.proofs.check_room.Tie as tie
 
 returns : tie.Need-returns
 returns c = rw (lt-ltb _ _ (c .if1 .taken))
