@@ -23,7 +23,8 @@ use Rattle.event.specs.declared.Parsed.{Parsed}
 use Rattle.event.specs.declared.Parsed.the-variants.{Read, Refused as Unread}
 use Rattle.event.specs.Numbers.{fieldsOf}
 use Rattle.event.proofs.Bools.{or-neither}
-use Rattle.window.specs.Window.{windowBytes, lineOf, lineStart, lineCount, rangeEnd, isPast, rangesOf, anyRange}
+use Rattle.window.specs.Window.{windowBytes, lineOf, lineStart}
+use Rattle.ranges.specs.Ranges.{lineCount, rangeEnd, isPast, rangesOf, anyRange}
 use Rattle.codec.specs.Codec.{u16Bytes, findingBytes}
 use Rattle.records.specs.Record.{recordSize, badKind, fieldSet, recordOf}
 use Rattle.history.specs.History.{History}

@@ -12,8 +12,8 @@ use Rattle.event.specs.Numbers.{numberOf}
 use Rattle.event.specs.Reply.{Reply, answerReply, findingValues}
 use Rattle.event.proofs.Bools.{contradiction}
 use Rattle.event.proofs.Meaning.{no-eight}
-use Rattle.window.specs.Window.{isPast, rangesOf, anyRange}
-use Rattle.window.proofs.Meaning.{empty-covers, empty-touches}
+use Rattle.ranges.specs.Ranges.{isPast, rangesOf, anyRange}
+use Rattle.ranges.proofs.Meaning.{empty-covers, empty-touches}
 use Rattle.history.specs.History.{History}
 use Rattle.history.specs.Refused.{First}
 use Rattle.history.specs.Claim.{Claim}

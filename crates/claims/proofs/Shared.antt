@@ -15,8 +15,9 @@ use Rattle.event.specs.declared.Refusal.the-variants.{SharedByte}
 use Rattle.event.specs.Numbers.{numberOf}
 use Rattle.event.specs.Reply.{Reply, answerReply}
 use Rattle.event.proofs.Bools.{fails, or-neither}
-use Rattle.window.specs.Window.{windowBytes, rangeEnd, covers, isPast, anyRange, rangesShare}
-use Rattle.window.proofs.Meaning.{shared-byte, byte-shared, empty-shares}
+use Rattle.window.specs.Window.{windowBytes}
+use Rattle.ranges.specs.Ranges.{rangeEnd, covers, isPast, anyRange, rangesShare}
+use Rattle.ranges.proofs.Meaning.{shared-byte, byte-shared, empty-shares}
 use Rattle.records.specs.Record.{recordSize}
 use Rattle.history.specs.History.{History}
 use Rattle.history.specs.View.{View, ofHistory}

@@ -9,7 +9,7 @@ use Rattle.event.specs.declared.Refusal.{Refusal}
 use Rattle.event.specs.declared.Refusal.the-variants.{PastWindow}
 use Rattle.event.specs.Numbers.{numberOf}
 use Rattle.event.specs.Reply.{Reply}
-use Rattle.window.specs.Window.{isPast}
+use Rattle.ranges.specs.Ranges.{isPast}
 use Rattle.history.specs.View.{View}
 use Rattle.history.specs.Refused.{firstBroken}
 use Rattle.history.specs.Given.{windowOf, accepted}

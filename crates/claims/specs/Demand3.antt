@@ -10,7 +10,7 @@ use Rattle.event.specs.declared.Range.{Range}
 use Rattle.event.specs.declared.Event.the-variants.{End, Persisted, Ordered}
 use Rattle.event.specs.declared.Record.{Record}
 use Rattle.event.specs.Reply.{Reply, answerReply}
-use Rattle.window.specs.Window.{covers}
+use Rattle.ranges.specs.Ranges.{covers}
 use Rattle.history.specs.History.{storesByte, storesSome}
 use Rattle.history.specs.Interval.{epochAt}
 use Rattle.history.specs.Assertion.{BrokenByte, BrokenPair}

@@ -14,7 +14,8 @@ use Rattle.event.specs.declared.Check.the-variants.{Passed}
 use Rattle.event.specs.declared.Answer.the-variants.{Found}
 use Rattle.event.specs.Numbers.{numberOf}
 use Rattle.event.specs.Reply.{Reply}
-use Rattle.window.specs.Window.{windowBytes, covers, touches, rangesOf}
+use Rattle.window.specs.Window.{windowBytes}
+use Rattle.ranges.specs.Ranges.{covers, touches, rangesOf}
 use Rattle.history.specs.History.{History, is, stores, coversSome, storesByte, storesSome, OfNoBytes}
 use Rattle.history.specs.Transaction.{depth, outermost, Since}
 use Rattle.history.specs.Refused.{refusalBy}

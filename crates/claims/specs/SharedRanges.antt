@@ -12,7 +12,8 @@ use Rattle.event.specs.declared.Event.{Event}
 use Rattle.event.specs.declared.Event.the-variants.{Ordered}
 use Rattle.event.specs.declared.Record.{Record}
 use Rattle.event.specs.Reply.{Reply}
-use Rattle.window.specs.Window.{windowBytes, rangeEnd, covers, rangesOf, sharesByte, rangesShare}
+use Rattle.window.specs.Window.{windowBytes}
+use Rattle.ranges.specs.Ranges.{rangeEnd, covers, rangesOf, sharesByte, rangesShare}
 use Rattle.records.specs.Record.{recordSize, recordOf}
 use Rattle.history.specs.History.{History}
 use Rattle.history.specs.View.{View}

@@ -9,7 +9,8 @@ use lib.Dec.{eqb, ltb}
 use borrow.Author.Tests.{ne-eqb}
 use Rattle.event.specs.declared.Event.{Event}
 use Rattle.event.specs.declared.Event.the-variants.{Store, WriteBack, Fence, Begin, Log, End, Persisted, Ordered}
-use Rattle.window.specs.Window.{mostLines, windowBytes, lineOf, touches, isPast, rangesOf, anyRange}
+use Rattle.window.specs.Window.{mostLines, windowBytes, lineOf}
+use Rattle.ranges.specs.Ranges.{touches, isPast, rangesOf, anyRange}
 use Rattle.history.specs.History.{stores, writesBack, fences, logs, storesByte, storesLine, writesBackLine, logsByte}
 use Rattle.tables.specs.declared.Run.{Run}
 use Rattle.tables.specs.Table.{entry, changed}

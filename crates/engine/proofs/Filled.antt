@@ -9,9 +9,10 @@ use lib.Dec.{leb, ltb}
 use lib.ListN.{length}
 use borrow.Author.Tests.{eqb-false, leb-true, le-leb, ltb-true, lt-ltb, ltb-false}
 use Rattle.event.specs.declared.Range.{Range}
-use Rattle.window.specs.Window.{mostLines, windowBytes, lineOf, rangeEnd, covers, isEmpty, touches, lineCount, isPast}
+use Rattle.window.specs.Window.{mostLines, windowBytes, lineOf}
+use Rattle.ranges.specs.Ranges.{rangeEnd, covers, isEmpty, touches, lineCount, isPast}
 use Rattle.event.proofs.Bools.{and-left, and-right, both}
-use Rattle.window.proofs.Meaning.{touched, touched-below, below-touched}
+use Rattle.ranges.proofs.Meaning.{touched, touched-below, below-touched}
 use Rattle.tables.specs.Table.{entry, changed, filledBytes, filledLines}
 use Rattle.tables.proofs.Table.{changed-entry}
 

@@ -9,7 +9,7 @@ use lib.ListN.{length}
 use borrow.Author.Tests.{leb-false}
 use Rattle.event.specs.declared.Event.{Event}
 use Rattle.event.specs.declared.Record.{Record}
-use Rattle.window.specs.Window.{isPast, rangesOf, anyRange}
+use Rattle.ranges.specs.Ranges.{isPast, rangesOf, anyRange}
 use Rattle.event.proofs.Bools.{contradiction}
 use Rattle.history.specs.Count.{count, last}
 use Rattle.history.specs.History.{History, is}

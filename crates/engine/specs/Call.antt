@@ -4,7 +4,8 @@ use Prim.Native.Nat.{ℕ}
 use lib.Dec.{eqb}
 use lib.ListN.{replicate}
 use Rattle.event.specs.declared.Refusal.the-variants.{PastWindow, TransactionOpen}
-use Rattle.window.specs.Window.{isPast, linesCheck}
+use Rattle.window.specs.Window.{linesCheck}
+use Rattle.ranges.specs.Ranges.{isPast}
 use Rattle.history.specs.Given.{windowOf}
 use Rattle.tables.specs.declared.Run.{Run}
 use Rattle.engine.specs.declared.Window.{Window}

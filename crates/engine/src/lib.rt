@@ -116,7 +116,7 @@ pub fn ask(run: Run, byte: u16) -> Asked
         address: byte,
         length: 1,
     };
-    if window::is_past(tables::lines_of(run.counts), range) {
+    if ranges::is_past(tables::lines_of(run.counts), range) {
         return Asked::Refused(Refusal::PastWindow);
     }
     let b = byte as usize;

@@ -13,12 +13,13 @@ use Rattle.event.specs.declared.Finding.the-variants.{None, Unlogged, LoggedTwi
 use Rattle.event.specs.declared.Check.{Check}
 use Rattle.event.specs.declared.Check.the-variants.{Passed}
 use Rattle.event.specs.declared.Answer.the-variants.{Found}
-use Rattle.window.specs.Window.{windowBytes, lineOf, lineCount}
+use Rattle.window.specs.Window.{windowBytes, lineOf}
+use Rattle.ranges.specs.Ranges.{lineCount}
 use Rattle.history.specs.History.{OfNoBytes}
 use Rattle.history.specs.View.{View}
 use Rattle.history.specs.Refused.{refusalBy}
 use Rattle.history.specs.Found.{lowest, foundOr, unlogged, logged, warnedLine, findingBy}
-use Rattle.window.proofs.Meaning.{no-lines}
+use Rattle.ranges.proofs.Meaning.{no-lines}
 use Rattle.history.proofs.Meaning.NoBytes.{idle}
 use Rattle.tables.specs.declared.Run.{Run}
 use Rattle.tables.specs.Table.{changed, filledBytes, filledLines}

@@ -8,7 +8,7 @@ use borrow.Author.Tests.{ltb-false}
 use Rattle.event.specs.declared.Range.{Range}
 use Rattle.event.specs.declared.Event.{Event}
 use Rattle.event.specs.declared.Check.the-variants.{Passed}
-use Rattle.window.specs.Window.{isPast, rangeEnd, rangesOf, anyRange}
+use Rattle.ranges.specs.Ranges.{isPast, rangeEnd, rangesOf, anyRange}
 use Rattle.history.specs.Refused.{refusalBy}
 use Rattle.limits.proofs.Passed.{Passes, passed}
 use Rattle.tables.specs.declared.Counts.{Counts}

@@ -11,7 +11,8 @@ use Rattle.event.specs.declared.Refusal.{Refusal}
 use Rattle.event.specs.declared.Check.{Check}
 use Rattle.event.specs.declared.Check.the-variants.{Passed, Refused as Breaks}
 use Rattle.event.specs.declared.Answer.the-variants.{Refused}
-use Rattle.window.specs.Window.{windowBytes, lineOf, lineCount}
+use Rattle.window.specs.Window.{windowBytes, lineOf}
+use Rattle.ranges.specs.Ranges.{lineCount}
 use Rattle.history.specs.Refused.{refusalBy}
 use Rattle.history.specs.Found.{lowestIn, findingBy}
 use Rattle.tables.specs.declared.Run.{Run}

@@ -8,7 +8,8 @@ use Rattle.event.specs.declared.Event.{Event}
 use Rattle.event.specs.declared.Event.the-variants.{Store, WriteBack, Fence, Begin, Log, End, Persisted, Ordered}
 use Rattle.event.specs.declared.Finding.{Finding}
 use Rattle.event.specs.Numbers.{isNone}
-use Rattle.window.specs.Window.{windowBytes, lineOf, lineCount}
+use Rattle.window.specs.Window.{windowBytes, lineOf}
+use Rattle.ranges.specs.Ranges.{lineCount}
 use Rattle.history.specs.History.{fences, begins, storesSome}
 use Rattle.history.specs.Transaction.{depthAfter}
 use Rattle.history.specs.Found.{atRisk}

@@ -11,7 +11,8 @@ use borrow.Author.Tests.{eq-eqb, ne-eqb}
 use Rattle.event.specs.declared.Range.{Range}
 use Rattle.event.specs.declared.Event.the-variants.{Store, WriteBack, End, Persisted, Ordered}
 use Rattle.event.specs.declared.Finding.the-variants.{None, Unlogged}
-use Rattle.window.specs.Window.{lineOf, wordOf, lineCount}
+use Rattle.window.specs.Window.{lineOf, wordOf}
+use Rattle.ranges.specs.Ranges.{lineCount}
 use Rattle.history.specs.Found.{Pair, lowest, lowestIn, lowestPair, foundOr, unlogged, clean, writtenTwice, warnedLine, atRisk, breaks, inOrder, findingBy}
 use Rattle.tables.specs.declared.Counts.{Counts}
 use Rattle.tables.specs.declared.Run.{Run}

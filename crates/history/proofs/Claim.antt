@@ -15,9 +15,10 @@ use Rattle.event.specs.declared.Event.the-variants.{Store, WriteBack, Fence, Be
 use Rattle.event.specs.declared.Record.{Record}
 use Rattle.event.specs.declared.Finding.{Finding}
 use Rattle.event.specs.declared.Finding.the-variants.{None, Lost, OutOfOrder, Empty}
-use Rattle.window.specs.Window.{windowBytes, lineOf, lineCount, covers}
+use Rattle.window.specs.Window.{windowBytes, lineOf}
+use Rattle.ranges.specs.Ranges.{lineCount, covers}
 use Rattle.event.proofs.Bools.{contradiction, and-left, and-right, both}
-use Rattle.window.proofs.Meaning.{covered, covering}
+use Rattle.ranges.proofs.Meaning.{covered, covering}
 use Rattle.history.specs.Count.{last}
 use Rattle.history.specs.History.{History, is, storesByte, storesSome}
 use Rattle.history.specs.Interval.{lastStore}

@@ -12,7 +12,7 @@ use Rattle.event.specs.declared.Event.the-variants.{End, Persisted, Ordered}
 use Rattle.event.specs.declared.Record.{Record}
 use Rattle.event.specs.declared.Finding.{Finding}
 use Rattle.event.specs.declared.Finding.the-variants.{Holds}
-use Rattle.window.specs.Window.{covers}
+use Rattle.ranges.specs.Ranges.{covers}
 use Rattle.history.specs.History.{History, storesByte, storesSome}
 use Rattle.history.specs.View.{ofHistory}
 use Rattle.history.specs.Found.{findingBy}

@@ -14,7 +14,8 @@ use Rattle.event.specs.declared.Check.the-variants.{Passed, Refused as Breaks}
 use Rattle.event.specs.declared.Answer.the-variants.{Refused, Found}
 use Rattle.event.specs.Numbers.{numberOf}
 use Rattle.event.specs.Reply.{Reply, findingValues, answerReply}
-use Rattle.window.specs.Window.{windowBytes, isPast, rangesOf, anyRange}
+use Rattle.window.specs.Window.{windowBytes}
+use Rattle.ranges.specs.Ranges.{isPast, rangesOf, anyRange}
 use Rattle.event.proofs.Bools.{contradiction, fails, and-right}
 use Rattle.history.specs.History.{History, is, stores, coversByte, storesByte}
 use Rattle.history.specs.View.{ofHistory}

@@ -12,9 +12,10 @@ use Rattle.event.specs.declared.Range.{Range}
 use Rattle.event.specs.declared.Event.{Event}
 use Rattle.event.specs.declared.Finding.{Finding}
 use Rattle.event.specs.declared.Finding.the-variants.{None}
-use Rattle.window.specs.Window.{lineOf, lineCount}
+use Rattle.window.specs.Window.{lineOf}
+use Rattle.ranges.specs.Ranges.{lineCount}
 use Rattle.event.proofs.Bools.{contradiction, fails, fails-not, not-of, and-left, and-right, both, or-cases, or-left, or-right}
-use Rattle.window.proofs.Meaning.{covered, covering, touched, touched-below, below-touched}
+use Rattle.ranges.proofs.Meaning.{covered, covering, touched, touched-below, below-touched}
 use Rattle.history.specs.Count.{last}
 use Rattle.history.specs.History.{History, is, storesLine, writesBackLine, logsByte}
 use Rattle.history.specs.Transaction.{depth, outermost, Since}

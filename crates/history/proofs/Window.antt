@@ -6,9 +6,10 @@ use mathlib.Core.Logic.{⊎-elim}
 use Prim.Native.Nat.{ℕ, _<_}
 use Rattle.event.specs.declared.Range.{Range}
 use Rattle.event.specs.declared.Event.{Event}
-use Rattle.window.specs.Window.{windowBytes, covers, touches, lineOf, isPast, rangesOf, anyRange}
+use Rattle.window.specs.Window.{windowBytes, lineOf}
+use Rattle.ranges.specs.Ranges.{covers, touches, isPast, rangesOf, anyRange}
 use Rattle.event.proofs.Bools.{contradiction, fails, and-left, and-right, both, or-cases, or-left, or-right}
-use Rattle.window.proofs.Meaning.{byte-touches, inside-window}
+use Rattle.ranges.proofs.Meaning.{byte-touches, inside-window}
 use Rattle.history.specs.History.{stores, coversByte, storesByte, storesLine}
 
 pub any-implied : (p q : Range → Bool) → ((a : Range) → p a ≡ true → q a ≡ true) → (rs : List Range) → anyRange p rs ≡ true → anyRange q rs ≡ true

@@ -5,7 +5,7 @@ use Prim.Native.Nat.{ℕ, _<_}
 use Rattle.event.specs.declared.Range.{Range}
 use Rattle.event.specs.declared.Finding.{Finding}
 use Rattle.event.specs.declared.Finding.the-variants.{Holds, Lost, OutOfOrder}
-use Rattle.window.specs.Window.{covers}
+use Rattle.ranges.specs.Ranges.{covers}
 use Rattle.history.specs.History.{History}
 use Rattle.history.specs.Interval.{lastStore}
 use Rattle.history.specs.Image.{Image, Allowed}

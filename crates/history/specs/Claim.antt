@@ -10,7 +10,7 @@ use Rattle.event.specs.declared.Event.the-variants.{Store, WriteBack, Fence, Be
 use Rattle.event.specs.declared.Record.{Record}
 use Rattle.event.specs.declared.Finding.{Finding}
 use Rattle.event.specs.declared.Finding.the-variants.{None, Unlogged, LoggedTwice, Empty}
-use Rattle.window.specs.Window.{covers}
+use Rattle.ranges.specs.Ranges.{covers}
 use Rattle.history.specs.History.{History, storesByte, storesSome}
 use Rattle.history.specs.Transaction.{depth, Since}
 use Rattle.history.specs.Assertion.{Persists, Orders}

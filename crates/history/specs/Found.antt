@@ -8,7 +8,8 @@ use Rattle.event.specs.declared.Event.{Event}
 use Rattle.event.specs.declared.Event.the-variants.{Store, WriteBack, Fence, Begin, Log, End, Persisted, Ordered}
 use Rattle.event.specs.declared.Finding.{Finding}
 use Rattle.event.specs.declared.Finding.the-variants.{None, Holds, Lost, OutOfOrder, Unlogged, Clean, WrittenTwice, LoggedTwice, Empty}
-use Rattle.window.specs.Window.{windowBytes, lineOf, wordOf, lineStart, lineCount}
+use Rattle.window.specs.Window.{windowBytes, lineOf, wordOf, lineStart}
+use Rattle.ranges.specs.Ranges.{lineCount}
 use Rattle.history.specs.View.{View}
 
 -- the lowest of the n numbers from x on that passes

@@ -10,7 +10,7 @@ use Rattle.event.specs.declared.Event.{Event}
 use Rattle.event.specs.declared.Event.the-variants.{Store, WriteBack, Log}
 use Rattle.event.specs.declared.Record.{Record}
 use Rattle.event.specs.Numbers.{kindOf}
-use Rattle.window.specs.Window.{covers, isEmpty, touches, rangesOf, anyRange}
+use Rattle.ranges.specs.Ranges.{covers, isEmpty, touches, rangesOf, anyRange}
 
 abbrev pub History : Type 0
 History = List Record

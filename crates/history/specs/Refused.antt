@@ -10,7 +10,7 @@ use Rattle.event.specs.declared.Refusal.the-variants.{PastWindow, SharedByte, E
 use Rattle.event.specs.declared.Check.{Check}
 use Rattle.event.specs.declared.Check.the-variants.{Passed, Refused}
 use Rattle.event.specs.Numbers.{numberOf}
-use Rattle.window.specs.Window.{isPast, rangesOf, anyRange, rangesShare}
+use Rattle.ranges.specs.Ranges.{isPast, rangesOf, anyRange, rangesShare}
 use Rattle.history.specs.History.{begins, logs, ends}
 use Rattle.history.specs.View.{View}
 

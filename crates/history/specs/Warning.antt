@@ -6,7 +6,8 @@ use Prim.Native.Nat.{ℕ, _<_}
 use Rattle.event.specs.declared.Range.{Range}
 use Rattle.event.specs.declared.Finding.{Finding}
 use Rattle.event.specs.declared.Finding.the-variants.{None, Clean, WrittenTwice}
-use Rattle.window.specs.Window.{covers, touches, lineStart}
+use Rattle.window.specs.Window.{lineStart}
+use Rattle.ranges.specs.Ranges.{covers, touches}
 use Rattle.history.specs.History.{History, is, storesLine, writesBackLine, logsByte}
 use Rattle.history.specs.Transaction.{depth, Since}
 use Rattle.history.specs.Assertion.{Lowest}

@@ -5,7 +5,8 @@ use tables::Counts;
 ghost use mathlib.Core.Path.{_≡_};
 ghost use Prim.Native.Nat.{_+_, _-_, _≤_, min};
 ghost use lib.ListN.{length};
-ghost use Rattle.window.specs.Window.{windowBytes, lineOf, lineCount};
+ghost use Rattle.window.specs.Window.{windowBytes, lineOf};
+ghost use Rattle.ranges.specs.Ranges.{lineCount};
 ghost use Rattle.tables.specs.Table.{changed, filledBytes, inTables};
 ghost use Rattle.tables.specs.View.{linesOf};
 ghost use Rattle.intervals.specs.Now.{backNow, epochNow, backedNow, closedNow};
@@ -67,7 +68,7 @@ pub fn write_back(written: &mut [u16], stored: &[u16; 4096], a: Range, number: u
     }
     let part = tables::in_tables(a);
     let at = window::line_of(part.address) as usize;
-    let n = window::line_count(part) as usize;
+    let n = ranges::line_count(part) as usize;
     write_back_bytes(written, stored, at * 64, n * 64, number);
 }
 

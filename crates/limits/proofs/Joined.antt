@@ -6,7 +6,7 @@ use lib.ListN.{take, drop}
 use Rattle.event.specs.declared.Event.{Event}
 use Rattle.event.specs.declared.Refusal.{Refusal}
 use Rattle.event.specs.declared.Check.the-variants.{Passed, Refused}
-use Rattle.window.specs.Window.{rangeCheck}
+use Rattle.ranges.specs.Ranges.{rangeCheck}
 use Rattle.history.specs.Refused.{Limit, limitsBy, refusalBy}
 use Rattle.limits.specs.Limits.{numbersOf, stateCheck}
 use Rattle.limits.proofs.Parts.{part-refused, part-passed}

@@ -10,7 +10,7 @@ use Rattle.event.specs.declared.Event.{Event}
 use Rattle.event.specs.declared.Event.the-variants.{Begin, End}
 use Rattle.event.specs.declared.Check.{Check}
 use Rattle.event.specs.declared.Check.the-variants.{Passed, Refused}
-use Rattle.window.specs.Window.{isPast, rangesOf, anyRange}
+use Rattle.ranges.specs.Ranges.{isPast, rangesOf, anyRange}
 use Rattle.history.specs.History.{begins}
 use Rattle.history.specs.Refused.{Limit, limitsBy, firstBroken, NoneBroken, mostDepth, asksOpen, refusalBy}
 use Rattle.history.proofs.Given.{Checked, checked}

@@ -54,7 +54,7 @@ fn check_state(events: u16, depth: u16, e: Event) -> Check
 pub fn check_event(lines: u16, events: u16, depth: u16, e: Event) -> Check
     ensures { λ c. ⌜ c ≡ refusalBy (numbersOf lines events depth) e ⌝ }
 {
-    match window::check_ranges(lines, e) {
+    match ranges::check_ranges(lines, e) {
         Check::Refused(x) => Check::Refused(x),
         Check::Passed => check_state(events, depth, e),
     }

@@ -6,7 +6,7 @@ use Prim.Native.Nat.{ℕ, _+_, _-_, _≤_, _<_}
 use native.Mathlib.Omega.{arith}
 use native.Mathlib.Numerals.{add-one}
 use Rattle.event.specs.declared.Range.{Range}
-use Rattle.window.specs.Window.{rangeEnd}
+use Rattle.ranges.specs.Ranges.{rangeEnd}
 use Rattle.history.specs.Found.{lowestIn, lowestPair, Pair}
 use Rattle.searches.proofs.FromFront.{left, one-less, left-here, left-end}
 use Rattle.searches.proofs.Searched.{lowest-none}

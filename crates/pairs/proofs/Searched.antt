@@ -5,7 +5,7 @@ use mathlib.Core.Option.{Option, none, some}
 use Prim.Native.Nat.{ℕ, zero, suc, _+_, _<_}
 use native.Mathlib.Omega.{arith}
 use Rattle.event.specs.declared.Range.{Range}
-use Rattle.window.specs.Window.{rangeEnd}
+use Rattle.ranges.specs.Ranges.{rangeEnd}
 use Rattle.history.specs.Found.{lowestIn, lowestPair, orPair, Pair}
 use Rattle.searches.proofs.Searched.{lowest-below}
 use Rattle.pairs.specs.declared.PairSearch.{PairSearch}

@@ -15,7 +15,7 @@ use Rattle.event.specs.declared.Record.{Record}
 use Rattle.event.specs.declared.Parsed.the-variants.{Read, Refused}
 use Rattle.event.specs.declared.Refusal.the-variants.{UnknownKind, FieldSet}
 use Rattle.event.specs.Numbers.{kindOf}
-use Rattle.window.specs.Window.{rangesOf}
+use Rattle.ranges.specs.Ranges.{rangesOf}
 use Rattle.codec.specs.Codec.{u16At, u16Bytes}
 use Rattle.records.specs.Record.{rangeAt, isKind, usesA, usesB, isZero, isClear, eventOf, recordOf, parsed, parsedFields, padded, zeroRange, rangeBytes, fieldsBytes, recordBytes, rangeValues, recordValues}
 use Rattle.event.proofs.Bools.{contradiction, and-left, and-right}

@@ -13,7 +13,7 @@ use Rattle.event.specs.declared.Parsed.{Parsed}
 use Rattle.event.specs.declared.Parsed.the-variants.{Read, Refused}
 use Rattle.event.specs.Numbers.{kindOf, numberOf}
 use Rattle.event.specs.Reply.{Reply}
-use Rattle.window.specs.Window.{rangesOf}
+use Rattle.ranges.specs.Ranges.{rangesOf}
 use Rattle.codec.specs.Codec.{u16At, u16Bytes}
 
 -- a record has 12 bytes

@@ -7,7 +7,8 @@ ghost use mathlib.Core.Bool.{_&&_};
 ghost use Prim.Native.Nat.{_+_, _/_, _≤_, min};
 ghost use lib.Dec.{leb, ltb};
 ghost use lib.ListN.{length};
-ghost use Rattle.window.specs.Window.{windowBytes, lineOf, lineCount};
+ghost use Rattle.window.specs.Window.{windowBytes, lineOf};
+ghost use Rattle.ranges.specs.Ranges.{lineCount};
 ghost use Rattle.history.specs.Found.{lowest, lowestIn};
 ghost use Rattle.tables.specs.Table.{inTables};
 ghost use Rattle.tables.specs.View.{lineOpen, linesOf};
@@ -109,7 +110,7 @@ pub fn first_line(test: Test, xs: &[u16; 64], ys: &[u16; 64], a: Range) -> Searc
 {
     let part = tables::in_tables(a);
     let at = window::line_of(part.address) as usize;
-    let n = window::line_count(part) as usize;
+    let n = ranges::line_count(part) as usize;
     scan(test, xs, ys, at, n)
 }
 

@@ -5,7 +5,8 @@ use Prim.Native.Nat.{ℕ, _+_, _-_, _/_, _≤_, min}
 use native.Mathlib.Omega.{arith}
 use borrow.Author.Tests.{eqb-false}
 use Rattle.event.specs.declared.Range.{Range}
-use Rattle.window.specs.Window.{lineOf, lineCount, rangeEnd, isEmpty}
+use Rattle.window.specs.Window.{lineOf}
+use Rattle.ranges.specs.Ranges.{lineCount, rangeEnd, isEmpty}
 use Rattle.tables.specs.Table.{inTables}
 
 -- it is within them

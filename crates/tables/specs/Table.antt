@@ -3,7 +3,8 @@ use mathlib.Core.List.{List}
 use Prim.Native.Nat.{ℕ, zero, suc, _+_, _-_, min}
 use lib.ListN.{getD, set}
 use Rattle.event.specs.declared.Range.{Range}
-use Rattle.window.specs.Window.{mostLines, windowBytes, lineOf, lineCount}
+use Rattle.window.specs.Window.{mostLines, windowBytes, lineOf}
+use Rattle.ranges.specs.Ranges.{lineCount}
 
 -- the entry at a place; 0 past the end
 abbrev pub entry : List ℕ → ℕ → ℕ

@@ -75,7 +75,7 @@ pub fn begin_after(depth: u16, begin: u16, number: u16) -> u16
 pub fn store_after(a: Range, store: u16, number: u16) -> u16
     ensures { λ r. ⌜ r ≡ storeAfter a store number ⌝ }
 {
-    if window::is_empty(a) { store } else { number }
+    if ranges::is_empty(a) { store } else { number }
 }
 
 // Whether a line may have an open byte, from the latest fence, its last store and its last write-back: where the write-back is later than

@@ -7,7 +7,7 @@ use Rattle.event.specs.declared.Check.{Check}
 use Rattle.event.specs.declared.NamedInterval.{NamedInterval}
 use Rattle.event.specs.declared.Refusal.{Refusal}
 use Rattle.event.specs.declared.Refusal.the-variants.{PastWindow}
-use Rattle.window.specs.Window.{isPast}
+use Rattle.ranges.specs.Ranges.{isPast}
 use Rattle.history.specs.View.{View}
 use Rattle.history.proofs.Given.{none-broken}
 use Rattle.tables.specs.declared.Run.{Run}

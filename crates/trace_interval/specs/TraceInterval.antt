@@ -11,7 +11,7 @@ use Rattle.event.specs.declared.Parsed.the-variants.{Read, Refused as Unread}
 use Rattle.event.specs.declared.Refusal.the-variants.{PastWindow}
 use Rattle.event.specs.Numbers.{numberOf}
 use Rattle.event.specs.Reply.{Reply, namedValues}
-use Rattle.window.specs.Window.{isPast}
+use Rattle.ranges.specs.Ranges.{isPast}
 use Rattle.history.specs.Count.{ifSome}
 use Rattle.history.specs.History.{History}
 use Rattle.history.specs.Interval.{namedOf}

@@ -36,7 +36,7 @@ pub fn fill_lines(xs: &mut [u16; 64], a: Range, x: u16)
 {
     let part = tables::in_tables(a);
     let at = window::line_of(part.address) as usize;
-    let n = window::line_count(part) as usize;
+    let n = ranges::line_count(part) as usize;
     fill(xs, at, n, x);
 }
 

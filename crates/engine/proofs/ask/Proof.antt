@@ -7,7 +7,7 @@ use Prim.Native.Nat.{_<_}
 use native.Mathlib.Omega.{arith}
 use borrow.Author.Needs.{needs}
 use Rattle.event.proofs.Laws.{equal-by}
-use Rattle.window.specs.Window.{isPast}
+use Rattle.ranges.specs.Ranges.{isPast}
 use Rattle.tables.specs.View.{linesOf}
 use Rattle.events.proofs.Passed.{within-tables}
 use Rattle.engine.proofs.ask.Statement.{statement}

@@ -8,7 +8,7 @@ use Rattle.event.specs.declared.Range.{Range}
 use Rattle.event.specs.declared.Event.{Event}
 use Rattle.event.specs.declared.Check.the-variants.{Passed}
 use Rattle.event.proofs.Laws.{equal-by}
-use Rattle.window.specs.Window.{rangeEnd, rangesOf}
+use Rattle.ranges.specs.Ranges.{rangeEnd, rangesOf}
 use Rattle.history.specs.Refused.{refusalBy}
 use Rattle.limits.proofs.Passed.{begin-below, end-inside}
 use Rattle.tables.specs.declared.Run.{Run}

@@ -6,7 +6,8 @@ use mathlib.Core.Option.{some}
 use native.Mathlib.Omega.{arith}
 use borrow.Author.Needs.{needs}
 use borrow.Author.Tests.{eq-eqb, ne-eqb}
-use Rattle.window.specs.Window.{lineOf, lineCount}
+use Rattle.window.specs.Window.{lineOf}
+use Rattle.ranges.specs.Ranges.{lineCount}
 use Rattle.history.specs.Found.{lowest}
 use Rattle.searches.specs.declared.Test.the-variants.{Wasted}
 use Rattle.tables.specs.Table.{inTables}

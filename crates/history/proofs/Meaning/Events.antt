@@ -9,7 +9,7 @@ use Rattle.event.specs.declared.Range.{Range}
 use Rattle.event.specs.declared.Event.{Event}
 use Rattle.event.specs.declared.Event.the-variants.{Store, WriteBack, Fence, Begin, Log, End}
 use Rattle.event.specs.declared.Record.{Record}
-use Rattle.window.specs.Window.{covers, touches}
+use Rattle.ranges.specs.Ranges.{covers, touches}
 use Rattle.history.specs.Count.{count}
 use Rattle.history.specs.History.{History, is, fences, begins, ends, storesByte, storesLine, writesBackLine, logsByte}
 use Rattle.history.specs.Interval.{epochAt}

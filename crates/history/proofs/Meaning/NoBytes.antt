@@ -14,9 +14,10 @@ use Rattle.event.specs.declared.Record.{Record}
 use Rattle.event.specs.declared.Finding.{Finding}
 use Rattle.event.specs.declared.Finding.the-variants.{None, Holds, Empty}
 use Rattle.event.specs.declared.Refusal.the-variants.{PastWindow}
-use Rattle.window.specs.Window.{windowBytes, covers, isEmpty, isPast, rangesOf, anyRange}
+use Rattle.window.specs.Window.{windowBytes}
+use Rattle.ranges.specs.Ranges.{covers, isEmpty, isPast, rangesOf, anyRange}
 use Rattle.event.proofs.Bools.{contradiction, fails, and-left, and-right, both}
-use Rattle.window.proofs.Meaning.{empty-covers, empty-touches, covers-some, covers-first, empty-inside, empty-beyond}
+use Rattle.ranges.proofs.Meaning.{empty-covers, empty-touches, covers-some, covers-first, empty-inside, empty-beyond}
 use Rattle.history.specs.Count.{count}
 use Rattle.history.specs.History.{History, is, stores, begins, ends, coversByte, coversSome, storesByte, storesSome, storesLine, writesBackLine, logsByte, OfNoBytes}
 use Rattle.history.specs.Interval.{lastStore, intervalOf, namedOf}

@@ -14,9 +14,9 @@ use Rattle.event.specs.declared.Event.the-variants.{Store, WriteBack, Fence, Be
 use Rattle.event.specs.declared.Record.{Record}
 use Rattle.event.specs.declared.Refusal.{Refusal}
 use Rattle.event.specs.Numbers.{kindOf, numberOf}
-use Rattle.window.specs.Window.{covers, isPast, rangesOf, anyRange, sharesByte, rangesShare}
+use Rattle.ranges.specs.Ranges.{covers, isPast, rangesOf, anyRange, sharesByte, rangesShare}
 use Rattle.event.proofs.Bools.{contradiction, and-left, and-right, both, or-cases, or-left, or-right}
-use Rattle.window.proofs.Meaning.{shared-byte, byte-shared}
+use Rattle.ranges.proofs.Meaning.{shared-byte, byte-shared}
 use Rattle.history.specs.History.{History, begins, logs, ends}
 use Rattle.history.specs.Transaction.{depth}
 use Rattle.history.specs.View.{ofHistory}

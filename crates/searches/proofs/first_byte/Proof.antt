@@ -3,7 +3,7 @@
 use mathlib.Core.Path.{ap}
 use native.Mathlib.Omega.{arith}
 use borrow.Author.Needs.{needs}
-use Rattle.window.specs.Window.{rangeEnd}
+use Rattle.ranges.specs.Ranges.{rangeEnd}
 use Rattle.searches.proofs.first_byte.Statement.{statement}
 use Rattle.searches.proofs.first_byte.Tie as tie
 

@@ -7,7 +7,8 @@ use Prim.Native.Nat.{ℕ, _+_, _-_, _*_, _≤_, _<_}
 use native.Mathlib.Omega.{arith}
 use borrow.Author.Needs.{needs}
 use Rattle.event.proofs.Laws.{equal-by}
-use Rattle.window.specs.Window.{lineOf, rangeEnd}
+use Rattle.window.specs.Window.{lineOf}
+use Rattle.ranges.specs.Ranges.{rangeEnd}
 use Rattle.searches.specs.Tests.{passing, openByte}
 use Rattle.searches.specs.declared.Test.the-variants.{Open}
 use Rattle.history.specs.Found.{lowest}

@@ -3,7 +3,7 @@
 use mathlib.Core.Path.{ap}
 use native.Mathlib.Omega.{arith}
 use borrow.Author.Needs.{needs}
-use Rattle.window.specs.Window.{rangeEnd}
+use Rattle.ranges.specs.Ranges.{rangeEnd}
 use Rattle.writes.proofs.fill_bytes.Statement.{statement}
 use Rattle.writes.proofs.fill_bytes.Tie as tie
 

@@ -1,8 +1,8 @@
--- `window::ranges_share` meets its contract: an ordered by what is called, and every other event by its case.
+-- `ranges::ranges_share` meets its contract: an ordered by what is called, and every other event by its case.
 -- Assumes nothing.
 use borrow.Author.Needs.{needs}
-use Rattle.window.proofs.ranges_share.Statement.{statement}
-use Rattle.window.proofs.ranges_share.Tie as tie
+use Rattle.ranges.proofs.ranges_share.Statement.{statement}
+use Rattle.ranges.proofs.ranges_share.Tie as tie
 
 enum-known-e : tie.Need-enum-known-e
 enum-known-e c = search needs

@@ -1,8 +1,8 @@
--- `window::shares_byte` meets its contract: it makes the four tests of the definition.
+-- `ranges::shares_byte` meets its contract: it makes the four tests of the definition.
 -- Assumes nothing.
 use borrow.Author.Needs.{needs}
-use Rattle.window.proofs.shares_byte.Statement.{statement}
-use Rattle.window.proofs.shares_byte.Tie as tie
+use Rattle.ranges.proofs.shares_byte.Statement.{statement}
+use Rattle.ranges.proofs.shares_byte.Tie as tie
 
 is-empty-requires : tie.Need-is-empty-requires
 is-empty-requires c κs = search needs

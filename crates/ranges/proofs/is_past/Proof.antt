@@ -1,8 +1,8 @@
--- `window::is_past` meets its contract: it compares what two calls ensure.
+-- `ranges::is_past` meets its contract: it compares what two calls ensure.
 -- Assumes nothing.
 use borrow.Author.Needs.{needs}
-use Rattle.window.proofs.is_past.Statement.{statement}
-use Rattle.window.proofs.is_past.Tie as tie
+use Rattle.ranges.proofs.is_past.Statement.{statement}
+use Rattle.ranges.proofs.is_past.Tie as tie
 
 window-bytes-requires : tie.Need-window-bytes-requires
 window-bytes-requires c κs = search needs

@@ -1,9 +1,9 @@
--- `window::line_count` meets its contract: it makes the test of the definition, and then the same sum.
+-- `ranges::line_count` meets its contract: it makes the test of the definition, and then the same sum.
 -- Assumes nothing.
 use borrow.Author.Tests.{eq-eqb, ne-eqb}
 use borrow.Author.Needs.{needs}
-use Rattle.window.proofs.line_count.Statement.{statement}
-use Rattle.window.proofs.line_count.Tie as tie
+use Rattle.ranges.proofs.line_count.Statement.{statement}
+use Rattle.ranges.proofs.line_count.Tie as tie
 
 returns : tie.Need-returns
 returns c = simp (eq-eqb _ _ (c .if1 .taken))

@@ -1,12 +1,12 @@
--- `window::any_past` meets its contract: in each arm the event is that arm's case, and what is called ensures the same of the ranges
+-- `ranges::any_past` meets its contract: in each arm the event is that arm's case, and what is called ensures the same of the ranges
 -- that the event has.
 -- Assumes nothing.
 use mathlib.Core.Bool.{or-false}
 use mathlib.Core.Logic.{⊎-elim}
 use Rattle.event.proofs.Laws.{equal-by}
 use borrow.Author.Needs.{needs}
-use Rattle.window.proofs.any_past.Statement.{statement}
-use Rattle.window.proofs.any_past.Tie as tie
+use Rattle.ranges.proofs.any_past.Statement.{statement}
+use Rattle.ranges.proofs.any_past.Tie as tie
 
 enum-known-e : tie.Need-enum-known-e
 enum-known-e c = search needs

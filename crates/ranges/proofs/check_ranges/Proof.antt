@@ -1,9 +1,9 @@
--- `window::check_ranges` meets its contract: the branches go by the tests of the ranges, as `rangeCheck` does.
+-- `ranges::check_ranges` meets its contract: the branches go by the tests of the ranges, as `rangeCheck` does.
 -- Assumes nothing.
 use Rattle.event.proofs.Laws.{equal-by}
 use borrow.Author.Needs.{needs}
-use Rattle.window.proofs.check_ranges.Statement.{statement}
-use Rattle.window.proofs.check_ranges.Tie as tie
+use Rattle.ranges.proofs.check_ranges.Statement.{statement}
+use Rattle.ranges.proofs.check_ranges.Tie as tie
 
 any-past-requires : tie.Need-any-past-requires
 any-past-requires c κs = search needs

@@ -1,0 +1,2 @@
+-- Theorems on the definitions, which other crates may cite too.
+pub mod Meaning

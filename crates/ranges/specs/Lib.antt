@@ -1,0 +1,2 @@
+-- Definitions of ranges.
+pub mod Ranges
