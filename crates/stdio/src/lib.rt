@@ -1,4 +1,5 @@
-// Standard input read into a slice, and bytes of a slice written to standard output.
+// Standard input read into a slice, and bytes of a slice written to standard output. Where that fails, the complaint goes to standard
+// error, with the program's name in front.
 use libc::STDERR_FILENO;
 use libc::STDIN_FILENO;
 use libc::STDOUT_FILENO;
@@ -26,7 +27,7 @@ fn read_some(buf: &mut [u8]) -> Input
 }
 
 // Reads standard input until the buffer is full, the input ends or a read fails.
-pub fn read_input(buf: &mut [u8]) -> Input
+fn read_all(buf: &mut [u8]) -> Input
     ensures { λ r. ⌜ Counts (r .len) (now (buf .exit)) ⌝ }
 {
     let mut done = 0;
@@ -42,6 +43,23 @@ pub fn read_input(buf: &mut [u8]) -> Input
     Input { len: done, failed }
 }
 
+// `pmjudge: standard input cannot be read`
+fn complain(name: &[u8], words: &[u8]) {
+    io::write_all(STDERR_FILENO, name);
+    io::write_all(STDERR_FILENO, words);
+}
+
+// The same, and complains where a read failed.
+pub fn read_input(buf: &mut [u8], name: &[u8]) -> Input
+    ensures { λ r. ⌜ Counts (r .len) (now (buf .exit)) ⌝ }
+{
+    let input = read_all(buf);
+    if input.failed {
+        complain(name, b": standard input cannot be read\n");
+    }
+    input
+}
+
 // A number, or the length of a buffer where that is less.
 fn at_most(len: usize, buf: &[u8]) -> usize
     ensures { λ r. ⌜ r ≡ min len (length (now (buf .entry))) ⌝ }
@@ -49,11 +67,10 @@ fn at_most(len: usize, buf: &[u8]) -> usize
     if len < buf.len() { len } else { buf.len() }
 }
 
-// Writes the first bytes of a buffer, so many of them, or all where it has fewer. Where they cannot be written, the complaint goes to
-// standard error.
-pub fn write_output(buf: &[u8], len: usize, complaint: &[u8]) {
+// Writes the first bytes of a buffer, so many of them, or all where it has fewer, and complains where they cannot be written.
+pub fn write_output(buf: &[u8], len: usize, name: &[u8]) {
     let n = at_most(len, buf);
     if !io::write_all(STDOUT_FILENO, &buf[..n]) {
-        io::write_all(STDERR_FILENO, complaint);
+        complain(name, b": cannot write to standard output\n");
     }
 }

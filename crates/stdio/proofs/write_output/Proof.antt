@@ -14,8 +14,11 @@ slice-aggregate-write-all c = omega (arith, length-take (c .before .at-most .res
 write-all-requires : tie.Need-write-all-requires
 write-all-requires c κs = search needs
 
-write-all-requires-2 : tie.Need-write-all-requires-2
-write-all-requires-2 c κs = search needs
+slice-aggregate-complain : tie.Need-slice-aggregate-complain
+slice-aggregate-complain c = search needs
+
+complain-requires : tie.Need-complain-requires
+complain-requires c κs = search needs
 
 returns : tie.Need-returns
 returns c = search needs
@@ -30,6 +33,7 @@ write-output-spec =
     at-most-requires
     slice-aggregate-write-all
     write-all-requires
-    write-all-requires-2
+    slice-aggregate-complain
+    complain-requires
     returns
     returns-2)

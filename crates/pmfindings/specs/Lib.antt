@@ -1,2 +1,0 @@
--- What is written for a trace.
-pub mod Report  -- the findings or the refusal

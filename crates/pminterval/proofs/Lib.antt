@@ -1,2 +1,0 @@
--- Laws of what is printed.
-pub mod Put  -- the interval or the refusal in the text

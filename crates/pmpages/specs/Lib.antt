@@ -1,2 +1,0 @@
--- What is printed for a findings area.
-pub mod Report  -- the pages or the refusal
