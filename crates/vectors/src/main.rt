@@ -37,26 +37,33 @@ fn print_differs(name: &[u8], same: bool) {
     io::write_all(STDOUT_FILENO, b"\n");
 }
 
-// Reads the trace, findings area and text of an entry, whose lengths the header gives, into these buffers, and runs the trace. Standard
-// input decides the answer, and nothing is promised of it.
+// Judges a trace into an area as long as the one it is compared with. Standard input decides the answer, and nothing is promised of it.
 fn run_parts(
-    header: &[u8],
-    trace: &mut [u8],
-    after: &mut [u8],
-    text: &mut [u8],
-    area: &mut [u8],
+    trace: &[u8],
+    after: &[u8],
+    text: &[u8],
     answers: &mut [u32],
     kinds: &mut [u32],
-) -> bool
-    requires { ⌜ length (now area) ≡ length (now after) ⌝ }
-{
-    let trace_len = read_part(header, 4, trace);
-    let area_len = read_part(header, 8, after);
-    let text_len = read_part(header, 12, text);
-    corpus::run(
+) -> bool {
+    let mut area = [0u8; 65536];
+    let len = after.len();
+    if area.len() < len {
+        return false;
+    }
+    corpus::run(trace, &mut area[..len], after, text, answers, kinds)
+}
+
+// Reads the trace, findings area and text of an entry, whose lengths the header gives, and runs the trace.
+fn read_parts(header: &[u8], answers: &mut [u32], kinds: &mut [u32]) -> bool {
+    let mut trace = [0u8; 65537];
+    let mut after = [0u8; 65536];
+    let mut text = [0u8; 262144];
+    let trace_len = read_part(header, 4, &mut trace);
+    let after_len = read_part(header, 8, &mut after);
+    let text_len = read_part(header, 12, &mut text);
+    run_parts(
         &trace[..trace_len],
-        &mut area[..area_len],
-        &after[..area_len],
+        &after[..after_len],
         &text[..text_len],
         answers,
         kinds,
@@ -67,21 +74,32 @@ fn run_parts(
 fn entry(header: &[u8], answers: &mut [u32], kinds: &mut [u32]) -> bool {
     let mut name = [0u8; 64];
     let n = read_part(header, 0, &mut name);
-    let mut trace = [0u8; 65537];
-    let mut after = [0u8; 65536];
-    let mut text = [0u8; 262144];
-    let mut area = [0u8; 65536];
-    let same = run_parts(
-        header,
-        &mut trace,
-        &mut after,
-        &mut text,
-        &mut area,
-        answers,
-        kinds,
-    );
+    let same = read_parts(header, answers, kinds);
     print_differs(&name[..n], same);
     same
+}
+
+// How many traces were run, and how many of them differ.
+struct Ran {
+    traces: u16,
+    differ: u16,
+}
+
+// Runs the entries of standard input to its end, or the first 65,535 of them.
+fn run_all(answers: &mut [u32; 19], kinds: &mut [u32; 9]) -> Ran {
+    let mut header = [0u8; 16];
+    let mut traces: u16 = 0;
+    let mut differ: u16 = 0;
+    while traces < 65535 {
+        if io::read_full(STDIN_FILENO, &mut header) < 16 {
+            break;
+        }
+        traces += 1;
+        if !entry(&header, answers, kinds) {
+            differ += 1;
+        }
+    }
+    Ran { traces, differ }
 }
 
 // The words, a number after them, and the line's end.
@@ -126,20 +144,9 @@ fn print_kinds(kinds: &[u32; 9]) {
 fn main() {
     let mut answers = [0u32; 19];
     let mut kinds = [0u32; 9];
-    let mut traces: u16 = 0;
-    let mut differ: u16 = 0;
-    let mut header = [0u8; 16];
-    while traces < 65535 {
-        if io::read_full(STDIN_FILENO, &mut header) < 16 {
-            break;
-        }
-        traces += 1;
-        if !entry(&header, &mut answers, &mut kinds) {
-            differ += 1;
-        }
-    }
-    print_count(b"traces", traces as u32);
+    let ran = run_all(&mut answers, &mut kinds);
+    print_count(b"traces", ran.traces as u32);
     print_answers(&answers);
     print_kinds(&kinds);
-    print_count(b"differ", differ as u32);
+    print_count(b"differ", ran.differ as u32);
 }
