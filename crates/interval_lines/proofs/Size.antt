@@ -1,5 +1,4 @@
 -- No line is longer than its words and numbers of ten digits.
-use mathlib.Core.List.{List}
 use Prim.Native.Nat.{ℕ, zero, suc, _≤_}
 use native.Mathlib.Omega.{arith}
 use lib.ListN.{length, length-append}

@@ -1,10 +1,10 @@
 -- No report is longer than 436,856 bytes, whatever the trace and the area, so in that much room it is whole.
-use mathlib.Core.Path.{_≡_, refl, sym, ap, _∙_}
+use mathlib.Core.Path.{_≡_, refl}
 use mathlib.Core.Bool.{Bool, true, false, cond}
 use mathlib.Core.List.{List, [], _∷_, _++_}
 use Prim.Native.Nat.{ℕ, suc, _+_, _*_, _≤_}
 use native.Mathlib.Omega.{arith}
-use lib.ListN.{length, take, drop, length-append, length-take}
+use lib.ListN.{length, length-append}
 use Rattle.event.specs.declared.Record.{Record}
 use Rattle.event.specs.declared.Fields.{Fields}
 use Rattle.event.specs.declared.Answer.{Answer}
@@ -15,12 +15,12 @@ use Rattle.trace.specs.declared.TraceCheck.{TraceCheck}
 use Rattle.trace.specs.declared.TraceCheck.the-variants.{Passed, Refused}
 use Rattle.trace.specs.Records.{linesIn, eventsIn}
 use Rattle.verdict.specs.Verdict.{traceCheck, historyOf, answersOf, verdictFor, verdictOf, verdictReply}
-use Rattle.text.specs.Text.{Out, out, put}
+use Rattle.text.specs.Text.{out, put}
 use Rattle.lines.specs.Lines.{headLine, footLine}
 use Rattle.finding_lines.specs.Lines.{isPrinted, field, values, columns, findingLine}
 use Rattle.listing.specs.Report.{findingLines, reportFor, reportOf}
 use Rattle.text.proofs.Decimal.{decimal-length}
-use Rattle.text.proofs.Filled.{whole}
+use Rattle.text.proofs.Filled.{Whole, whole-put}
 use Rattle.lines.proofs.Size.{head-size, foot-size, refusal-size}
 use Rattle.finding_lines.proofs.Names.{name-size}
 use Rattle.listing.proofs.Area.{events-few}
@@ -80,24 +80,6 @@ report-size trace area = go (traceCheck trace area) refl
     go (Refused x n) e = omega (arith, refusal-size (numberOf x) n)
 
 -- so where there is room for so many bytes, the whole report is put, and the bytes beyond do not change
-pub record Whole (trace area d text : List ℕ) (n : ℕ) : Type 0 where
-  pub within : n ≤ length text
-  pub counted : n ≡ length (take n text)
-  pub report : take n text ≡ reportOf trace area
-  pub beyond : drop n text ≡ drop n d
-
 pub report-whole : (trace area d : List ℕ) {text : List ℕ} {n : ℕ} → longest-report ≤ length d → out text n ≡ put (reportOf trace area) (out d 0) →
-    Whole trace area d text n
-report-whole trace area d {text} {n} room e =
-    let s = reportOf trace area in
-    let w = whole s d (omega (arith, report-size trace area)) in
-    let bytes : text ≡ put s (out d 0) .bytes = ap (λ (o : Out). o .bytes) e in
-    let size : n ≡ length s = ap (λ (o : Out). o .next) e ∙ w .next in
-    let all : take n text ≡ s = rw (size, bytes) (w .text) in
-    let counted : n ≡ length (take n text) = size ∙ sym (ap length all) in
-    record {
-      within = omega (arith, counted, length-take n text);
-      counted = counted;
-      report = all;
-      beyond = rw (size, bytes) (w .beyond);
-    }
+    Whole (reportOf trace area) d text n
+report-whole trace area d room e = whole-put (reportOf trace area) d (omega (arith, report-size trace area)) e

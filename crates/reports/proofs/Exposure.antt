@@ -8,13 +8,13 @@ use Rattle.event.specs.declared.Refusal.{Refusal}
 use Rattle.event.specs.Numbers.{numberOf}
 use Rattle.text.specs.Text.{Out, out, put}
 use Rattle.text.proofs.Decimal.{decimal-length}
+use Rattle.text.proofs.Filled.{Whole, whole-put}
 use Rattle.lines.specs.Lines.{refusalLine}
 use Rattle.lines.proofs.Size.{refusal-size}
 use Rattle.trace_exposure.specs.declared.TraceExposure.{TraceExposure}
 use Rattle.trace_exposure.specs.declared.TraceExposure.the-variants.{Refused, Mean}
 use Rattle.trace_exposure.specs.TraceExposure.{traceExposureOf}
 use Rattle.reports.specs.Exposure.{exposureLine, reportFor, reportOf}
-use Rattle.reports.proofs.Whole.{Whole, all-put}
 
 -- the refusal is put, or the mean
 module _ (trace : List ℕ) (o : Out) {p : Out} {answer : TraceExposure} (answers : answer ≡ traceExposureOf trace) where
@@ -45,5 +45,5 @@ report-size trace = go (traceExposureOf trace)
 
 -- so where there is room for so many bytes, the whole report is put
 pub report-whole : (trace d : List ℕ) {text : List ℕ} {n : ℕ} → longest ≤ length d → out text n ≡ put (reportOf trace) (out d 0) →
-    Whole (reportOf trace) text n
-report-whole trace d room e = all-put (reportOf trace) d (omega (arith, report-size trace)) e
+    Whole (reportOf trace) d text n
+report-whole trace d room e = whole-put (reportOf trace) d (omega (arith, report-size trace)) e

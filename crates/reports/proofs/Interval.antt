@@ -9,6 +9,7 @@ use Rattle.event.specs.declared.Refusal.{Refusal}
 use Rattle.event.specs.Numbers.{numberOf}
 use Rattle.text.specs.Text.{ascii, decimal, Out, out, put}
 use Rattle.text.proofs.Decimal.{decimal-length}
+use Rattle.text.proofs.Filled.{Whole, whole-put}
 use Rattle.lines.specs.Lines.{refusalLine}
 use Rattle.lines.proofs.Size.{refusal-size}
 use Rattle.interval_lines.specs.Lines.{intervalText}
@@ -18,7 +19,6 @@ use Rattle.trace_interval.specs.declared.TraceInterval.{TraceInterval}
 use Rattle.trace_interval.specs.declared.TraceInterval.the-variants.{Refused, Known}
 use Rattle.trace_interval.specs.TraceInterval.{traceIntervalOf}
 use Rattle.reports.specs.Interval.{byteIn, traceIn, reportFor, reportOf}
-use Rattle.reports.proofs.Whole.{Whole, all-put}
 
 -- the refusal is put, or the interval
 module _ (input : List ℕ) {byte : ℕ} (number : byte ≡ byteIn input) {trace : List ℕ} (rest : trace ≡ traceIn input)
@@ -50,5 +50,5 @@ report-size input = go (traceIntervalOf (traceIn input) (byteIn input))
 
 -- so where there is room for so many bytes, the whole report is put
 pub report-whole : (input d : List ℕ) {text : List ℕ} {n : ℕ} → longest ≤ length d → out text n ≡ put (reportOf input) (out d 0) →
-    Whole (reportOf input) text n
-report-whole input d room e = all-put (reportOf input) d (omega (arith, report-size input)) e
+    Whole (reportOf input) d text n
+report-whole input d room e = whole-put (reportOf input) d (omega (arith, report-size input)) e

@@ -1,5 +1,4 @@
 -- Laws of what is printed.
-pub mod Whole  -- a text that there is room for
 pub mod Exposure  -- the mean exposure or the refusal in the text
 pub mod Interval  -- the interval or the refusal in the text
 pub mod Findings  -- the findings or the refusal in the area

@@ -6,7 +6,6 @@ use libc::STDOUT_FILENO;
 ghost use mathlib.Core.Path.{_≡_};
 ghost use mathlib.Core.Bool.{cond};
 ghost use lib.Dec.{ltb};
-ghost use lib.ListN.{length};
 ghost use Rattle.codec.specs.Codec.{u32At};
 ghost use Rattle.io.specs.Counts.{Counts};
 
