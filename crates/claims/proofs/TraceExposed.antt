@@ -26,10 +26,10 @@ use Rattle.trace.specs.declared.TraceCheck.the-variants.{Passed, Refused as Ref
 use Rattle.trailer.specs.Trailer.{fileLimits}
 use Rattle.trace.specs.Records.{linesIn, recordsIn, eventsIn}
 use Rattle.trace.specs.Checked.{unlessBroken, checkAll}
-use Rattle.verdict.specs.Verdict.{traceCheck, historyOf, verdictOf, verdictReply}
+use Rattle.verdict.specs.Verdict.{traceCheck, fileCheck, historyOf, verdictOf, verdictReply}
 use Rattle.verdict.proofs.Order.{area-aside}
 use Rattle.verdict.proofs.Outcome.{refuses, totalled}
-use Rattle.trace_exposure.specs.TraceExposure.{fileCheck, withoutRecord, unlessRefused, traceExposureOf, traceExposureReply}
+use Rattle.trace_exposure.specs.TraceExposure.{withoutRecord, unlessRefused, traceExposureOf, traceExposureReply}
 use Rattle.claims.specs.After.{runFrom}
 use Rattle.claims.specs.Traces.{StopsAt, TakesAll}
 use Rattle.claims.specs.MeanExposure.{NoneClosed, MeanExposure}

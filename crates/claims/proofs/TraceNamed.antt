@@ -21,9 +21,8 @@ use Rattle.trace.specs.declared.TraceCheck.{TraceCheck}
 use Rattle.trace.specs.declared.TraceCheck.the-variants.{Refused as RefusedAt}
 use Rattle.trace.specs.Records.{linesIn, recordsIn, eventsIn}
 use Rattle.trace.specs.Checked.{checkAll}
-use Rattle.verdict.specs.Verdict.{historyOf, verdictOf, verdictReply}
+use Rattle.verdict.specs.Verdict.{fileCheck, historyOf, verdictOf, verdictReply}
 use Rattle.verdict.proofs.Order.{unless-passed}
-use Rattle.trace_exposure.specs.TraceExposure.{fileCheck}
 use Rattle.trace_interval.specs.TraceInterval.{siteIn, siteOfEvent, withSites, unlessRefused, askedAfter, traceIntervalOf, traceIntervalReply}
 use Rattle.trace_interval.proofs.EventSites.{same-site}
 use Rattle.claims.specs.After.{runFrom, takenFrom}

@@ -19,12 +19,12 @@ use Rattle.trace.specs.declared.TraceCheck.{TraceCheck}
 use Rattle.trace.specs.declared.TraceCheck.the-variants.{Refused as RefusedAt, Passed}
 use Rattle.trace.specs.Records.{recordPart, linesIn, recordsIn, eventsIn}
 use Rattle.trace.specs.Checked.{unlessBroken, checkAll}
-use Rattle.verdict.specs.Verdict.{historyOf}
+use Rattle.verdict.specs.Verdict.{fileCheck, historyOf}
 use Rattle.verdict.proofs.Order.{not-opened, window-fits}
 use Rattle.pass.specs.Pass.{Result, allJudged}
 use Rattle.pass.proofs.Whole.{judged-check, judged-run}
 use Rattle.trace_exposure.specs.declared.TraceExposure.the-variants.{Refused}
-use Rattle.trace_exposure.specs.TraceExposure.{fileCheck, unlessRefused, traceExposureOf, exposureBy}
+use Rattle.trace_exposure.specs.TraceExposure.{unlessRefused, traceExposureOf, exposureBy}
 
 module _ (s : List ℕ) where
   -- the trailer is refused

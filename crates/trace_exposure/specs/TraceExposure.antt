@@ -4,23 +4,16 @@ use Prim.Native.Nat.{ℕ}
 use Rattle.event.specs.Numbers.{numberOf}
 use Rattle.event.specs.Reply.{Reply}
 use Rattle.history.specs.Interval.{intervalOf}
-use Rattle.history.specs.Refused.{firstBroken}
 use Rattle.exposure.specs.declared.Exposed.{Exposed}
 use Rattle.exposure.specs.declared.Exposed.the-variants.{Refused as NoMean, Mean as RunMean}
 use Rattle.exposure.specs.Exposure.{exposureIn, exposureOf}
-use Rattle.trailer.specs.Trailer.{fileLimits}
 use Rattle.trace.specs.declared.TraceCheck.{TraceCheck}
 use Rattle.trace.specs.declared.TraceCheck.the-variants.{Passed, Refused as RefusedAt}
-use Rattle.trace.specs.Records.{linesIn, recordsIn}
-use Rattle.trace.specs.Checked.{unlessBroken, checkAll}
-use Rattle.verdict.specs.Verdict.{historyOf}
+use Rattle.trace.specs.Records.{linesIn}
+use Rattle.verdict.specs.Verdict.{fileCheck, historyOf}
 use Rattle.pass.specs.Pass.{Result}
 use Rattle.trace_exposure.specs.declared.TraceExposure.{TraceExposure}
 use Rattle.trace_exposure.specs.declared.TraceExposure.the-variants.{Refused, Mean}
-
--- what refuses the trace, if anything does: 1, 2, 3, 4, 5, with the number 0; then 6, 7, 9, 18, 10 to 12, record by record; then 13
-abbrev pub fileCheck : List ℕ → TraceCheck
-fileCheck trace = unlessBroken (firstBroken (fileLimits trace)) 0 (checkAll (linesIn trace) (recordsIn trace))
 
 -- what a run answers: 17 names no record
 abbrev pub withoutRecord : Exposed → TraceExposure

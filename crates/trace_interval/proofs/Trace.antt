@@ -23,11 +23,10 @@ use Rattle.trace.specs.declared.TraceCheck.{TraceCheck}
 use Rattle.trace.specs.declared.TraceCheck.the-variants.{Refused as RefusedAt, Passed}
 use Rattle.trace.specs.Records.{recordPart, recordsOf, linesIn, recordsIn, eventsIn}
 use Rattle.trace.specs.Checked.{unlessBroken, checkAll}
-use Rattle.verdict.specs.Verdict.{historyOf}
+use Rattle.verdict.specs.Verdict.{fileCheck, historyOf}
 use Rattle.verdict.proofs.Order.{not-opened, window-fits}
 use Rattle.pass.specs.Pass.{Result, allJudged}
 use Rattle.pass.proofs.Whole.{judged-check, judged-run}
-use Rattle.trace_exposure.specs.TraceExposure.{fileCheck}
 use Rattle.trace_interval.specs.declared.TraceInterval.{TraceInterval}
 use Rattle.trace_interval.specs.declared.TraceInterval.the-variants.{Refused}
 use Rattle.trace_interval.specs.TraceInterval.{withSites, unlessRefused, askedAfter, traceIntervalOf, intervalBy}

@@ -21,9 +21,8 @@ use Rattle.engine.specs.Call.{askOf}
 use Rattle.trace.specs.declared.TraceCheck.{TraceCheck}
 use Rattle.trace.specs.declared.TraceCheck.the-variants.{Passed, Refused as RefusedAt}
 use Rattle.trace.specs.Records.{linesIn, recordsIn}
-use Rattle.verdict.specs.Verdict.{historyOf}
+use Rattle.verdict.specs.Verdict.{fileCheck, historyOf}
 use Rattle.pass.specs.Pass.{Result}
-use Rattle.trace_exposure.specs.TraceExposure.{fileCheck}
 use Rattle.trace_interval.specs.declared.Sites.{Sites}
 use Rattle.trace_interval.specs.declared.TraceInterval.{TraceInterval}
 use Rattle.trace_interval.specs.declared.TraceInterval.the-variants.{Refused, Known}

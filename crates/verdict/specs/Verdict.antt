@@ -39,6 +39,10 @@ traceLimits trace area = fileLimits trace ++ areaLimits trace area
 abbrev pub traceCheck : (trace area : List ℕ) → TraceCheck
 traceCheck trace area = unlessBroken (firstBroken (traceLimits trace area)) 0 (checkAll (linesIn trace) (recordsIn trace))
 
+-- the same without an area, 14 aside
+abbrev pub fileCheck : List ℕ → TraceCheck
+fileCheck trace = unlessBroken (firstBroken (fileLimits trace)) 0 (checkAll (linesIn trace) (recordsIn trace))
+
 -- the accepted events of a trace, and what each of its events gets, from a fresh window
 abbrev pub historyOf : List ℕ → History
 historyOf trace = accepted (linesIn trace) [] (eventsIn trace)
