@@ -47,7 +47,7 @@ fn range_b(e: Event) -> Range
 }
 
 // The fields of a record as 12 bytes, whatever they say.
-pub fn fields_bytes(kind: u8, a: Range, b: Range, site: u16) -> [u8; 12]
+fn fields_bytes(kind: u8, a: Range, b: Range, site: u16) -> [u8; 12]
     ensures { λ s. ⌜ s ≡ fieldsBytes kind a b site ⌝ }
 {
     [
