@@ -1,4 +1,6 @@
 // What `engine_runs` and `page_runs` print of a call: words, numbers, the record that it gives, and its answer.
+#![tactic(auto)]
+
 use libc::STDOUT_FILENO;
 use replies::Numbers;
 

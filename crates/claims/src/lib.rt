@@ -1,1 +1,2 @@
 // No code: what is promised of the judge, and the proofs of it.
+#![tactic(auto)]

@@ -1,4 +1,6 @@
 // Numbers as bytes, least significant byte first, the bytes of a finding, written and read, and bytes put at a place.
+#![tactic(auto)]
+
 ghost use Rattle.std.specs.Prelude.{◌≡◌, ◌+◌, ◌*◌, get_or};
 ghost use Rattle.codec.specs.Codec.{u16_at, u32_at, finding_bytes, fields_at};
 ghost use Rattle.codec.specs.Placed.{placed};

@@ -1,5 +1,7 @@
 // A trace of the corpus, judged and counted: whether what the judge leaves in the findings area and what is printed for the trace are as
 // the corpus says.
+#![tactic(auto)]
+
 ghost use Rattle.std.specs.Prelude.{◌≡◌, length};
 ghost use Rattle.verdict.specs.Verdict.{verdict_of, verdict_reply, area_after};
 ghost use Rattle.corpus.specs.Agrees.{area_before, Agrees, Tests};

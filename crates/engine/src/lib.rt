@@ -1,4 +1,6 @@
 // The engine: a run of tables that answers each event as it is given.
+#![tactic(auto)]
+
 ghost use Rattle.std.specs.Prelude.{◌≡◌};
 ghost use Rattle.events.specs.Give.{give_of};
 ghost use Rattle.engine.specs.Call.{empty_run, fresh_of, ask_of, close_of};

@@ -1,6 +1,8 @@
 // Makes the calls on standard input, which the unrelated checker wrote, and prints an answer line for each: fresh windows, events given
 // singly, bytes asked, closings and mean exposures, and those of a writer, with the bytes of its area that each changed. Fences given many
 // at a time, and calls that set the writer's area, its preamble or its numbers, have no line. A call has 12 bytes.
+#![tactic(auto)]
+
 ghost use Rattle.std.specs.Prelude.{◌≡◌, length};
 
 use file::Writer;

@@ -1,4 +1,6 @@
 // What the paper names, as types: ranges, events, records, findings, refusals and intervals.
+#![tactic(auto)]
+
 pub mod numbers; // the paper's number for each case
 
 // `length` bytes from `address` on.

@@ -1,4 +1,6 @@
 // An event given to tables that the caller lends, in place: nothing of them is copied.
+#![tactic(auto)]
+
 ghost use Rattle.std.specs.Prelude.{◌≡◌, ◌<◌, ◌≤◌, [], if◌then◌else◌};
 ghost use Rattle.event.specs.declared.Check.TheVariants.{Passed};
 ghost use Rattle.event.specs.Numbers.{is_none};

@@ -1,4 +1,6 @@
 // The mean exposure of a run: how many epochs its bytes stayed at risk, over the bytes whose interval is closed.
+#![tactic(auto)]
+
 ghost use Rattle.std.specs.Prelude.{◌≡◌, ◌-◌, ◌*◌, ◌≤◌};
 ghost use Rattle.tables.specs.View.{lines_of, interval_in};
 ghost use Rattle.tables.specs.Table.{table_bytes};

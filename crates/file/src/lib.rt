@@ -1,5 +1,7 @@
 // A trace file that is being written, in an area that the caller lends: what its writer knows, and what each call answers. No code: the
 // calls are in `writer`.
+#![tactic(auto)]
+
 use event::{Check, Refusal};
 
 // What a writer knows of its file: the window's lines, where the first record stands, how many records there are, and how many

@@ -1,4 +1,6 @@
 // The limits on a start, an event and a closing of a trace file, and the place behind its last record.
+#![tactic(auto)]
+
 ghost use Rattle.std.specs.Prelude.{◌≡◌, [], ◌∷◌, ◌+◌, ltb};
 ghost use Rattle.records.specs.Record.{record_size};
 ghost use Rattle.history.specs.Refused.{first_broken};

@@ -1,4 +1,6 @@
 // The lines of findings, each put into a slice from a place on. Each function answers the place after what it put.
+#![tactic(auto)]
+
 ghost use Rattle.std.specs.Prelude.{◌≡◌, ◌≤◌};
 ghost use Rattle.text.specs.Text.{out, put};
 ghost use Rattle.finding_lines.specs.Lines.{name_of, is_printed, values, columns, finding_line};

@@ -1,4 +1,6 @@
 // The finding of each kind of event, from the tables before it. A range stands for the part of it that the tables have.
+#![tactic(auto)]
+
 ghost use Rattle.std.specs.Prelude.{◌≡◌, [], ℕ, ◌<◌};
 ghost use Rattle.std.proofs.Math.Option.{some};
 ghost use Rattle.history.specs.Found.{lowest_in, finding_by};

@@ -1,4 +1,6 @@
 // The lines of a byte's persist interval, each put into a slice from a place on. Each function answers the place after what it put.
+#![tactic(auto)]
+
 ghost use Rattle.std.specs.Prelude.{◌≡◌};
 ghost use Rattle.text.specs.Text.{out, put};
 ghost use Rattle.interval_lines.specs.Lines.{open_line, closed_line, site_line, site_lines, interval_text};

@@ -1,5 +1,7 @@
 // Writes to the tables that no finding goes by: the epochs at which intervals opened and closed, and the first write-backs. Who asks no byte
 // lends shorter tables, or empty ones: an entry that a table lacks is not written.
+#![tactic(auto)]
+
 ghost use Rattle.std.specs.Prelude.{◌≡◌, ◌+◌, ◌-◌, ◌≤◌, min, length};
 ghost use Rattle.window.specs.Window.{window_bytes, line_of};
 ghost use Rattle.ranges.specs.Ranges.{line_count};

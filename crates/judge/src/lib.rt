@@ -1,4 +1,6 @@
 // The judge of a whole trace: its findings go into an area that the caller lends.
+#![tactic(auto)]
+
 ghost use Rattle.std.specs.Prelude.{◌≡◌, ◌++◌, ◌*◌, ◌≤◌, length, take, drop};
 ghost use Rattle.codec.specs.Codec.{finding_size};
 ghost use Rattle.verdict.specs.Verdict.{verdict_of, area_after};

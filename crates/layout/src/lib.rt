@@ -1,4 +1,6 @@
 // A record and a trailer as bytes. Numbers are least significant byte first.
+#![tactic(auto)]
+
 ghost use Rattle.std.specs.Prelude.{◌≡◌};
 ghost use Rattle.records.specs.Record.{fields_bytes, zero_range, range_a, range_b, record_bytes};
 ghost use Rattle.trailer.specs.Trailer.{trailer_with};

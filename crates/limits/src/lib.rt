@@ -1,4 +1,6 @@
 // The limits 9, 18 and 10 to 12 on an event that is given to a run, by the numbers of the run that they ask for.
+#![tactic(auto)]
+
 ghost use Rattle.std.specs.Prelude.{◌≡◌, cond, eqb, leb};
 ghost use Rattle.history.specs.Refused.{most_depth, refusal_by};
 ghost use Rattle.limits.specs.Limits.{numbers_of, state_check};

@@ -1,4 +1,6 @@
 // The lines around the findings, each put into a slice from a place on. Each function answers the place after its line.
+#![tactic(auto)]
+
 ghost use Rattle.std.specs.Prelude.{◌≡◌, ◌++◌};
 ghost use Rattle.text.specs.Text.{decimal, out, put};
 ghost use Rattle.lines.specs.Lines.{head_line, foot_line, refusal_line};

@@ -1,4 +1,6 @@
 // The text that the program prints for a trace.
+#![tactic(auto)]
+
 ghost use Rattle.std.specs.Prelude.{◌≡◌, ◌++◌, ◌≤◌, length, take, drop};
 ghost use Rattle.trace.specs.Records.{lines_in};
 ghost use Rattle.verdict.specs.Verdict.{area_after};

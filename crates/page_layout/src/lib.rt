@@ -1,4 +1,6 @@
 // The findings of an area that are shown, put on pages for print.
+#![tactic(auto)]
+
 ghost use Rattle.std.specs.Prelude.{◌≡◌, ◌-◌, take, drop};
 ghost use Rattle.text.specs.Text.{out, put};
 ghost use Rattle.finding_lines.specs.Rows.{rows_from};

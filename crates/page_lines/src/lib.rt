@@ -1,4 +1,6 @@
 // The lines of a page, each put into a slice from a place on. Each function answers the place after its line.
+#![tactic(auto)]
+
 ghost use Rattle.std.specs.Prelude.{◌≡◌, ◌++◌};
 ghost use Rattle.text.specs.Text.{ascii, decimal, out, put};
 ghost use Rattle.text.specs.Field.{padded};

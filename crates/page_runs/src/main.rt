@@ -1,5 +1,7 @@
 // Makes the calls on standard input, which the unrelated checker wrote: findings are put into a findings area, and laid out on pages in a
 // page area. Prints a line for each layout, and for some of them the pages. A call has 24 bytes.
+#![tactic(auto)]
+
 ghost use Rattle.std.specs.Prelude.{◌≡◌, min, length};
 ghost use Rattle.page_runs.specs.Setting.{number_in};
 

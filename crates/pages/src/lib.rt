@@ -1,4 +1,6 @@
 // The findings of an area laid out on pages for print, in an area that the caller lends.
+#![tactic(auto)]
+
 ghost use Rattle.std.specs.Prelude.{◌≡◌, ◌+◌, ◌*◌, ◌%◌, length};
 ghost use Rattle.history.specs.Refused.{first_broken};
 ghost use Rattle.finding_lines.specs.Rows.{rows_from};

@@ -1,5 +1,7 @@
 // The search over pairs of bytes: the lowest that a crash may keep, and the lowest that it loses with it. A range stands for the part of
 // it that the tables have.
+#![tactic(auto)]
+
 ghost use Rattle.std.specs.Prelude.{◌≡◌, ◌+◌, ◌/◌, ◌≤◌, ◌<◌};
 ghost use Rattle.history.specs.Found.{lowest, lowest_pair};
 ghost use Rattle.tables.specs.Table.{in_tables};

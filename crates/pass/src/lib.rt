@@ -1,4 +1,6 @@
 // The records of a trace, given one after another to tables that the caller lends, or that stand here; their findings go into a buffer.
+#![tactic(auto)]
+
 ghost use Rattle.std.specs.Prelude.{◌≡◌, cond, eqb};
 ghost use Rattle.tables.specs.View.{run_of};
 ghost use Rattle.record_step.specs.Step.{stage};

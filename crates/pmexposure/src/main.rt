@@ -1,4 +1,6 @@
 // Works out the mean exposure of the trace on standard input, and prints it or the refusal.
+#![tactic(auto)]
+
 use reports::exposing;
 
 // An input of more than 65,536 bytes is read as far as 65,537, and refused by 2.

@@ -1,4 +1,6 @@
 // Judges the trace on standard input, and writes its findings area to standard output, 12 bytes for each event, or prints its refusal.
+#![tactic(auto)]
+
 use reports::finding;
 
 // An input of more than 65,536 bytes is read as far as 65,537, and refused by 2. The area has room for the findings of every trace.

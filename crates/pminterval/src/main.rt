@@ -1,5 +1,7 @@
 // Works out the persist interval of a byte after a trace, both from standard input, and prints it with the sites of its events, or the
 // refusal.
+#![tactic(auto)]
+
 use reports::asking;
 
 // A trace of more than 65,536 bytes is read as far as 65,537, and refused by 2.

@@ -1,4 +1,5 @@
 // Judges the trace on standard input, and prints its listing or its refusal.
+#![tactic(auto)]
 
 // An input of more than 65,536 bytes is read as far as 65,537, and refused by 2. The area has room for the findings of every trace.
 fn main() {

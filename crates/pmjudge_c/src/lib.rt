@@ -1,6 +1,8 @@
 // The judge, the mean exposure, the persist interval of a byte, and the pages for programs in C or Rust, each with its answer in numbers.
 // The names of calls start with the library's, since a name is the whole program's, as in C. What each call answers, and what the caller has
 // to see to (no null pointer, no byte shared), stands in include/pmjudge.h.
+#![tactic(auto)]
+
 pub mod writing; // the writer of traces
 
 ghost use Rattle.std.specs.Prelude.{◌≡◌, length};

@@ -1,4 +1,6 @@
 // Lays out the findings area on standard input on pages, and prints the pages or the refusal.
+#![tactic(auto)]
+
 use reports::paging;
 
 // Reads standard input into the area, as far as it has room, and prints what is to be printed for it.

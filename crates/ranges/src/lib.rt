@@ -1,4 +1,6 @@
 // Ranges of bytes: how many lines one touches, whether two share a byte, and the limits 9 and 18.
+#![tactic(auto)]
+
 ghost use Rattle.std.specs.Prelude.{◌≡◌};
 ghost use Rattle.ranges.specs.Ranges.{range_end, is_empty, line_count, is_past, ranges_of, any_range, shares_byte, ranges_share, range_check};
 

@@ -1,4 +1,6 @@
 // One record given to tables that the caller lends, and its finding put into a buffer.
+#![tactic(auto)]
+
 ghost use Rattle.std.specs.Prelude.{◌≡◌};
 ghost use Rattle.tables.specs.View.{run_of};
 ghost use Rattle.record_step.specs.Step.{placed_for, stage, record_answer, record_given};

@@ -1,4 +1,6 @@
 // A record read, from its bytes or from the numbers in them. Numbers are least significant byte first.
+#![tactic(auto)]
+
 ghost use Rattle.std.specs.Prelude.{◌≡◌, ◌||◌, ◌+◌, ◌≤◌, length};
 ghost use Rattle.codec.specs.Codec.{u16_at};
 ghost use Rattle.records.specs.Record.{range_at, is_kind, uses_a, uses_b, is_zero, is_clear, event_of, parsed, parsed_fields, padded};

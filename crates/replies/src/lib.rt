@@ -1,4 +1,6 @@
 // An answer as numbers: those of its reply, by one function for each answer that a caller can get.
+#![tactic(auto)]
+
 ghost use Rattle.std.specs.Prelude.{◌≡◌, [], ◌∷◌, ◌++◌};
 ghost use Rattle.event.specs.Numbers.{number_of};
 ghost use Rattle.event.specs.Reply.{Reply, check_reply, answer_reply, named_values};

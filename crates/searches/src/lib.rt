@@ -1,5 +1,7 @@
 // Searches over tables that the caller lends: the lowest byte or line that passes a test. A range stands for the part of it that the
 // tables have.
+#![tactic(auto)]
+
 ghost use Rattle.std.specs.Prelude.{◌≡◌, ◌&&◌, ◌+◌, ◌/◌, ◌≤◌, min, leb, ltb, length};
 ghost use Rattle.window.specs.Window.{window_bytes, line_of};
 ghost use Rattle.ranges.specs.Ranges.{line_count};

@@ -1,5 +1,7 @@
 // Standard input read into a slice, and bytes of a slice written to standard output. Where that fails, the complaint goes to standard
 // error, with the program's name in front.
+#![tactic(auto)]
+
 ghost use Rattle.std.specs.Prelude.{◌≡◌, min, length};
 ghost use Rattle.io.specs.Counts.{IsPrefixLen};
 

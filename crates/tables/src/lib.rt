@@ -1,4 +1,6 @@
 // The tables of a run, its numbers, a byte's interval from its entries, and the part of a range that the tables have.
+#![tactic(auto)]
+
 ghost use Rattle.std.specs.Prelude.{◌≡◌, min};
 ghost use Rattle.tables.specs.Table.{in_tables};
 ghost use Rattle.tables.specs.View.{no_counts, lines_of, begin_after, store_after, line_open, since_store, interval_from, named_from};

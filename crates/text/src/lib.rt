@@ -1,4 +1,6 @@
 // Words and numbers, put into a slice. Each function answers the place after what it put; where the slice is full, no more is put.
+#![tactic(auto)]
+
 ghost use Rattle.std.specs.Prelude.{◌≡◌, ◌-◌};
 ghost use Rattle.text.specs.Text.{decimal, out, put_byte};
 ghost use Rattle.text.specs.Text.{put as Text·put};

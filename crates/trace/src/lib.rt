@@ -1,4 +1,6 @@
 // The records of a trace: the middle part of its slice, from the offset up to the trailer, and what refuses them one after another.
+#![tactic(auto)]
+
 ghost use Rattle.std.specs.Prelude.{◌≡◌, ◌*◌, drop};
 ghost use Rattle.records.specs.Record.{record_size, parsed};
 ghost use Rattle.trace.specs.Records.{record_part};

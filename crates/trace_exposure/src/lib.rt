@@ -1,4 +1,6 @@
 // The mean exposure of a whole trace: of the run after all its events.
+#![tactic(auto)]
+
 ghost use Rattle.std.specs.Prelude.{◌≡◌, []};
 ghost use Rattle.pass.specs.Pass.{all_judged};
 ghost use Rattle.trace_exposure.specs.TraceExposure.{without_record, exposure_by, trace_exposure_of};

@@ -1,4 +1,6 @@
 // The persist interval of a byte after all events of a trace, with the sites of the events that it names.
+#![tactic(auto)]
+
 ghost use Rattle.std.specs.Prelude.{◌≡◌, []};
 ghost use Rattle.trace.specs.Records.{records_of};
 ghost use Rattle.pass.specs.Pass.{all_judged};

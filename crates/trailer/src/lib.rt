@@ -1,4 +1,6 @@
 // The trailer of a trace file, and what refuses the file by it: the limits 1 to 5.
+#![tactic(auto)]
+
 use event::Refusal;
 
 pub mod opening; // the trailer read and checked

@@ -1,6 +1,8 @@
 // Runs the corpus of the unrelated checker: each trace on standard input is judged, and what the judge leaves in the findings area and
 // what is printed for the trace are compared with what that checker says. Names the traces that differ, and counts the answers and the
 // findings.
+#![tactic(auto)]
+
 ghost use Rattle.std.specs.Prelude.{◌≡◌, cond, ltb};
 ghost use Rattle.codec.specs.Codec.{u32_at};
 ghost use Rattle.io.specs.Counts.{IsPrefixLen};

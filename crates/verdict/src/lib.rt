@@ -1,4 +1,6 @@
 // What the judge answers to a trace. No function: the answer's type, its definition and the laws of it.
+#![tactic(auto)]
+
 use event::Refusal;
 
 // A refusal with the number of its record from 1, or 0 for trailer, area and closing; or the totals, where `findings` counts those

@@ -1,4 +1,6 @@
 // The window: its size, its lines, and the limit 4.
+#![tactic(auto)]
+
 ghost use Rattle.std.specs.Prelude.{◌≡◌};
 ghost use Rattle.window.specs.Window.{window_bytes, line_of, line_start, lines_check};
 

@@ -1,4 +1,6 @@
 // The writer of a trace file, over an area that the caller lends and does not write to in between.
+#![tactic(auto)]
+
 ghost use Rattle.std.specs.Prelude.{◌≡◌, ◌<◌};
 ghost use Rattle.history.specs.Transaction.{depth_after};
 ghost use Rattle.history.specs.Refused.{refusal_by};

@@ -1,4 +1,6 @@
 // Writes to tables that the caller lends. A range stands for the part of it that the tables have.
+#![tactic(auto)]
+
 ghost use Rattle.std.specs.Prelude.{◌≡◌, ◌+◌, ◌-◌, ◌≤◌, length};
 ghost use Rattle.window.specs.Window.{window_bytes};
 ghost use Rattle.tables.specs.Table.{entry, changed, filled, filled_bytes, filled_lines, in_tables};
