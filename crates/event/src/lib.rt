@@ -4,14 +4,14 @@
 pub mod numbers; // the paper's number for each case
 
 // `length` bytes from `address` on.
-#[derive(Drop)]
+#[derive(Clone, Copy)]
 pub struct Range {
     pub address: u16,
     pub length: u16,
 }
 
 // The eight kinds of event, in the order of their numbers. Ordered is "A before B".
-#[derive(Drop)]
+#[derive(Clone, Copy)]
 pub enum Event {
     Store(Range),
     WriteBack(Range),
@@ -24,14 +24,14 @@ pub enum Event {
 }
 
 // An event with its site, a number that the tracer chose.
-#[derive(Drop)]
+#[derive(Clone, Copy)]
 pub struct Record {
     pub event: Event,
     pub site: u16,
 }
 
 // The nine kinds of finding, in the order of their numbers, each with the fields that it has.
-#[derive(Drop)]
+#[derive(Clone, Copy)]
 pub enum Finding {
     None,
     Holds,
@@ -62,7 +62,7 @@ pub enum Finding {
 }
 
 // A finding's kind and fields as the paper lists them. Fields that its kind does not mention are 0.
-#[derive(Drop)]
+#[derive(Clone, Copy)]
 pub struct Fields {
     pub kind: u8,
     pub lost: u16,
@@ -72,7 +72,7 @@ pub struct Fields {
 }
 
 // The seventeen reasons for a refusal, in the order of their numbers; none has the number 8.
-#[derive(Drop)]
+#[derive(Clone, Copy)]
 pub enum Refusal {
     TraceTooShort,
     TraceTooLong,
@@ -94,14 +94,14 @@ pub enum Refusal {
 }
 
 // What a check of the limits says.
-#[derive(Drop)]
+#[derive(Clone, Copy)]
 pub enum Check {
     Passed,
     Refused(Refusal),
 }
 
 // A byte's persist interval: none, open since an epoch, or closed, with the epoch that opened it and the one that closed it.
-#[derive(Drop)]
+#[derive(Clone, Copy)]
 pub enum Interval {
     None,
     Open(u16),
@@ -110,7 +110,7 @@ pub enum Interval {
 
 // The same with the events that it goes by: the byte's last store, the first write-back of its line after it, 0 where there is none yet,
 // and the fence that closed it.
-#[derive(Drop)]
+#[derive(Clone, Copy)]
 pub enum NamedInterval {
     None,
     Open {
@@ -128,14 +128,14 @@ pub enum NamedInterval {
 }
 
 // What an event that is given gets: a refusal, or its finding.
-#[derive(Drop)]
+#[derive(Clone, Copy)]
 pub enum Answer {
     Refused(Refusal),
     Found(Finding),
 }
 
 // What reading a record finds.
-#[derive(Drop)]
+#[derive(Clone, Copy)]
 pub enum Parsed {
     Read(Record),
     Refused(Refusal),

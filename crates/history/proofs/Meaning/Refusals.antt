@@ -88,6 +88,7 @@ refused_applies lines h r (First.later a (First.later s (First.later b (First.he
 refused_applies lines h r (First.later a (First.later s (First.later b (First.later c (First.here t))))) =
     let deep = leb-true most_depth (depth h) (and_right (begins r.event) (leb most_depth (depth h)) t) in
     Applies.too_deep (eqb-true (kind_of r.event) 4 (and_left (begins r.event) (leb most_depth (depth h)) t)) (omega (arith, deep))
+refused_applies lines h r (First.later a (First.later s (First.later b (First.later c (First.later d none))))) = elim none [ ]
 
 -- and none applies to one that is accepted
 pub accepted_none : (lines : ℕ) (h : History) (r : Record) {n : ℕ} → Accepted lines h r → Applies lines h r.event n → ⊥
