@@ -73,7 +73,12 @@ def main(argv):
         text = open(os.path.join(folder, "Proof.antt.txt"), encoding="utf-8").read()
         bl = blocks(text)
         uses = [b for b in bl if b[0].startswith("use ")]
-        head = [b for b in bl if b[0].startswith("-- ")]
+        head = []
+        for b in bl:
+            if b[0].startswith("use "):
+                break
+            if b[0].startswith("-- "):
+                head.append(b)
         if f is None:
             print("no names:", crate, rel)
             continue
@@ -86,7 +91,7 @@ def main(argv):
         needs = {norm(o): n for o, n in f["needs"]}
         for b in bl:
             sig = b[0]
-            m = re.match(r"^abbrev (?:pub )?(\S+) : tie\.(\S+)", sig)
+            m = re.match(r"^abbrev (?:pub )?(\S+) : tie\.((?:invariant|decreases)\S*)", sig)
             if m:
                 name, kind = m.group(1), m.group(2)
                 body = "\n".join(b[1:])

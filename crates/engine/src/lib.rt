@@ -17,14 +17,14 @@ pub struct Window {
 }
 
 // A byte asked.
-#[derive(Drop)]
+#[derive(Clone, Copy)]
 pub enum Asked {
     Refused(Refusal),
     Known(NamedInterval),
 }
 
 // A run closed. `findings` counts those other than none.
-#[derive(Drop)]
+#[derive(Clone, Copy)]
 pub enum Closing {
     Refused(Refusal),
     Totals {

@@ -29,7 +29,7 @@ pub struct Given {
 }
 
 // An event given to tables that the caller lends: its refusal or its finding, and the numbers to go on with.
-#[derive(Drop)]
+#[derive(Clone, Copy)]
 pub struct Stepped {
     pub answer: Answer,
     pub counts: Counts,

@@ -10,7 +10,7 @@ use event::{Interval, Refusal};
 use tables::{Counts, Run};
 
 // A refusal, by 17; or the mean: quotient × divisor + remainder epochs, over `divisor` bytes.
-#[derive(Drop)]
+#[derive(Clone, Copy)]
 pub enum Exposed {
     Refused(Refusal),
     Mean {
@@ -21,7 +21,7 @@ pub enum Exposed {
 }
 
 // The epochs at risk of all bytes whose interval is closed, and the number of these bytes.
-#[derive(Drop)]
+#[derive(Clone, Copy)]
 pub struct Sums {
     pub epochs: u32,
     pub bytes: u16,

@@ -6,7 +6,7 @@ use event::{Check, Refusal};
 
 // What a writer knows of its file: the window's lines, where the first record stands, how many records there are, and how many
 // transactions are open.
-#[derive(Drop)]
+#[derive(Clone, Copy)]
 pub struct Writer {
     pub lines: u16,
     pub offset: u32,
@@ -15,21 +15,21 @@ pub struct Writer {
 }
 
 // A start. A refused one hands over no writer.
-#[derive(Drop)]
+#[derive(Clone, Copy)]
 pub enum Started {
     Refused(Refusal),
     Ready(Writer),
 }
 
 // An event given: what the limits say, and the writer to go on with.
-#[derive(Drop)]
+#[derive(Clone, Copy)]
 pub struct Written {
     pub check: Check,
     pub writer: Writer,
 }
 
 // A closing: the file's length, from the area's start.
-#[derive(Drop)]
+#[derive(Clone, Copy)]
 pub enum Closed {
     Refused(Refusal),
     File(usize),

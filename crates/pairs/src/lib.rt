@@ -11,14 +11,14 @@ ghost use Rattle.pairs.specs.Pairs.{pair_searched, is_broken, lost_with, broken_
 use event::Range;
 
 // What a search over pairs of bytes found.
-#[derive(Drop)]
+#[derive(Clone, Copy)]
 pub enum PairSearch {
     Nothing,
     At { kept: u16, lost: u16 },
 }
 
 // What is asked of a byte that a crash may keep: its last store, its line and its word.
-#[derive(Drop)]
+#[derive(Clone, Copy)]
 struct Kept {
     store: u16,
     line: u16,

@@ -11,7 +11,7 @@ use tables::Counts;
 use trace::TraceCheck;
 
 // What the records lead to: whether one of them is refused, or the closing, and the numbers of the run then.
-#[derive(Drop)]
+#[derive(Clone, Copy)]
 pub struct Judged {
     pub check: TraceCheck,
     pub counts: Counts,

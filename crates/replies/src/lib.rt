@@ -23,7 +23,7 @@ use trace_interval::{Sites, TraceInterval};
 use verdict::Verdict;
 
 // A refusal's number and its record's, both 0 where there is none; and the values, so many of them, with 0 behind them.
-#[derive(Drop)]
+#[derive(Clone, Copy)]
 pub struct Numbers {
     pub number: u8,
     pub at: u32,

@@ -14,7 +14,7 @@ use event::Range;
 use tables::Counts;
 
 // What a search over bytes or lines looks for, in the entries of two tables.
-#[derive(Drop)]
+#[derive(Clone, Copy)]
 pub enum Test {
     Since(u16), // an event after this one
     NotSince(u16), // none after it
@@ -24,7 +24,7 @@ pub enum Test {
 }
 
 // What it found.
-#[derive(Drop)]
+#[derive(Clone, Copy)]
 pub enum Search {
     Nothing,
     At(u16),

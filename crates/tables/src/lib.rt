@@ -8,7 +8,7 @@ ghost use Rattle.tables.specs.View.{no_counts, lines_of, begin_after, store_afte
 use event::{Interval, NamedInterval, Range};
 
 // The numbers of a run. Event numbers start at 1, and 0 stands for none.
-#[derive(Drop)]
+#[derive(Clone, Copy)]
 pub struct Counts {
     pub lines: u16, // of the window
     pub events: u16,

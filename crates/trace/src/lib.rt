@@ -8,7 +8,7 @@ ghost use Rattle.trace.specs.Records.{record_part};
 use event::{Parsed, Refusal};
 
 // What a check of all records says; `record` counts from 1, and is 0 at the closing. The judge makes its answer, a verdict, of it.
-#[derive(Drop)]
+#[derive(Clone, Copy)]
 pub enum TraceCheck {
     Passed,
     Refused { refusal: Refusal, record: u32 },

@@ -11,7 +11,7 @@ use trace::TraceCheck;
 use trailer::{Opened, opening};
 
 // A refusal with the number of its record from 1, or 0 where no record is meant; or the mean.
-#[derive(Drop)]
+#[derive(Clone, Copy)]
 pub enum TraceExposure {
     Refused {
         refusal: Refusal,

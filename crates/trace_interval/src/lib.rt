@@ -13,7 +13,7 @@ use trace::TraceCheck;
 use trailer::{Opened, opening};
 
 // The sites of the last store, of the first write-back after it and of the closing fence; 0 where the interval names none.
-#[derive(Drop)]
+#[derive(Clone, Copy)]
 pub struct Sites {
     pub store: u16,
     pub back: u16,
@@ -21,7 +21,7 @@ pub struct Sites {
 }
 
 // A refusal with the number of its record from 1, or 0 where no record is meant; or the byte's interval.
-#[derive(Drop)]
+#[derive(Clone, Copy)]
 pub enum TraceInterval {
     Refused {
         refusal: Refusal,

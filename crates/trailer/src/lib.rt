@@ -6,7 +6,7 @@ use event::Refusal;
 pub mod opening; // the trailer read and checked
 
 // The trailer after its mark: where the first record is, how many there are, the window's lines, and a field that is 0.
-#[derive(Drop)]
+#[derive(Clone, Copy)]
 pub struct Trailer {
     pub offset: u32,
     pub count: u32,
@@ -15,7 +15,7 @@ pub struct Trailer {
 }
 
 // What the end of a trace says.
-#[derive(Drop)]
+#[derive(Clone, Copy)]
 pub enum Opened {
     Refused(Refusal),
     Known(Trailer),

@@ -5,7 +5,7 @@ use event::Refusal;
 
 // A refusal with the number of its record from 1, or 0 for trailer, area and closing; or the totals, where `findings` counts those
 // other than none.
-#[derive(Drop)]
+#[derive(Clone, Copy)]
 pub enum Verdict {
     Refused {
         refusal: Refusal,
