@@ -20,6 +20,9 @@ def blocks(text):
     for l in text.split("\n"):
         if l and not l[0].isspace() and not re.match(r"^[)\]}]", l):
             m = re.match(r"^(?:abbrev |pub )*([^\s:]+)", l)
+            if cur and l.startswith("unfolding "):
+                cur.append(l)
+                continue
             if cur and cur[0].split(" : ")[0].replace("abbrev ", "").replace("pub ", "").strip() == (m.group(1) if m else "") and " : " not in l.split(" = ")[0]:
                 cur.append(l)
                 continue
@@ -58,7 +61,8 @@ def turn_body(body, f, steps):
         k = w.replace("_", "-")
         return "." + (steps[k] if k in steps else w)
 
-    return re.sub(r"\.([A-Za-z_][^\s(){}\[\];,.\"]*)", field, body)
+    body = re.sub(r"\.([A-Za-z_][^\s(){}\[\];,.\"]*)", field, body)
+    return body
 
 
 def main(argv):
@@ -123,7 +127,12 @@ def main(argv):
                 continue
             m = re.match(r"^(\S+) : tie\.Need-(\S+)", sig)
             if m:
-                body = "\n".join(b[1:]).rstrip()
+                opens = ""
+                rest = b[1:]
+                if rest and rest[0].startswith("unfolding "):
+                    opens = rest[0] + "\n"
+                    rest = rest[1:]
+                body = "\n".join(rest).rstrip()
                 mm = re.match(r"^(\S+)((?: \S+)*?) =(.*)$", body, re.S)
                 if not mm:
                     ans.append("-- unread\n" + "\n".join("-- " + x for x in b))
@@ -132,7 +141,7 @@ def main(argv):
                 if re.sub(r"\s+", " ", rhs).strip() in ("search rules", "search needs"):
                     continue
                 goal = needs.get(norm(m.group(2)), "?" + m.group(2))
-                ans.append(f"pub {goal} : goal.{goal}\n{goal}{mm.group(2)} ={turn_body(rhs, f, steps)}\n")
+                ans.append(f"pub {goal} : goal.{goal}\n{opens}{goal}{mm.group(2).replace(' κs', '')} ={turn_body(rhs, f, steps)}\n")
                 continue
             if sig.startswith(("use ", "-- ", "pub ")):
                 continue
