@@ -112,7 +112,7 @@ def main(argv):
                     new = loop
                 amap = {}
                 for a in args:
-                    base = a.rstrip("₀'")
+                    base = a.rstrip("₀'").replace("-", "_")
                     amap[a] = f"l.initial.{base}" if a.endswith("₀") else f"l.{base}"
 
                 def var(m):
