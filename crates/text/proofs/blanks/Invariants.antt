@@ -1,4 +1,4 @@
--- `text::blanks` meets its contract: the blanks that are left lead to what all of them do. Assumes nothing.
+-- The blanks that are left lead to what all of them do.
 use mathlib.Core.Path.{◌≡◌}
 use Prim.Native.Nat.{◌-◌}
 use lib.ListN.{length}

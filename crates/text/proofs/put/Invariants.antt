@@ -1,4 +1,4 @@
--- `text::put` meets its contract: what is left of the word leads to what the whole word does. Assumes nothing.
+-- What is left of the word leads to what the whole word does.
 use mathlib.Core.Path.{◌≡◌}
 use Prim.Native.Nat.{◌-◌}
 use lib.ListN.{length, drop}
