@@ -1,5 +1,5 @@
 -- `findings::of_store` meets its contract: inside a transaction the finding is at the byte that the search found.
--- Assumes nothing.
+use mathlib.Core.Path.{refl}
 use Rattle.tables.specs.Table.{in_tables}
 use Rattle.findings.proofs.Found.{store_outside, store_inside}
 use Rattle.searches.proofs.Searched.{found_none, found_some}
@@ -9,7 +9,7 @@ pub returns-then-counts-eq0 : goal.returns-then-counts-eq0
 returns-then-counts-eq0 c = let k = c.args in store_outside k.counts k.logged.now (in_tables k.a) c.if-counts-eq0.true
 
 pub returns-in-Nothing : goal.returns-in-Nothing
-returns-in-Nothing c = let w = c in let s = w in let k = s.args in rw (← store_inside k.counts k.logged.now (in_tables k.a) s.if-counts-eq0.false, found_none _ c.enum_told-1.given.1 w.first_byte.ensures)
+returns-in-Nothing c = let k = c.args in rw (← store_inside k.counts k.logged.now (in_tables k.a) c.if-counts-eq0.false, found_none _ refl c.in-Nothing.ensures)
 
 pub returns-in-At : goal.returns-in-At
-returns-in-At c = let w = c in let s = w in let k = s.args in rw (← store_inside k.counts k.logged.now (in_tables k.a) s.if-counts-eq0.false, found_some _ c.b-1.given.1 w.first_byte.ensures)
+returns-in-At c = let k = c.args in rw (← store_inside k.counts k.logged.now (in_tables k.a) c.if-counts-eq0.false, found_some _ refl c.in-At.ensures)
