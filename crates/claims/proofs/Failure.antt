@@ -42,20 +42,20 @@ pub holds_exactly : {answer : Answer} {f : Finding} {P : Type 0} → answer ≡ 
 holds_exactly {f = f} e (to, from) = (λ k. to (kind_one f (sym (ap answer_reply e) ∙ k)), λ p. ap answer_reply (e ∙ ap Found (from p)))
 
 -- otherwise a persisted is lost
-pub else_lost : {answer : Answer} {f : Finding} {now : History} {n : ℕ} {B : ℕ → Type 0} → answer ≡ Found f → Persists now n B f →
+pub else_lost : {answer : Answer} {now : History} {n : ℕ} {B : ℕ → Type 0} {f : Finding} → answer ≡ Found f → Persists now n B f →
     (answer_reply answer ≡ holds) ⊎ LostAt now n B (answer_reply answer)
 else_lost e (Persists.holds k) = inl (ap answer_reply e)
 else_lost e (Persists.lost {b = b} k s) = inr (record { lost = b; named = ap answer_reply e; lowest = k; shown = s })
 
 -- an ordered out of order
-pub else_out_of_order : {answer : Answer} {f : Finding} {now : History} {n : ℕ} {a b : Range} → answer ≡ Found f → Orders now n a b f →
+pub else_out_of_order : {answer : Answer} {now : History} {n : ℕ} {a b : Range} {f : Finding} → answer ≡ Found f → Orders now n a b f →
     (answer_reply answer ≡ holds) ⊎ OutOfOrderAt now n a b (answer_reply answer)
 else_out_of_order e (Orders.holds k) = inl (ap answer_reply e)
 else_out_of_order e (Orders.out_of_order {kept = kept} {lost = lost} k l s p) =
     inr (record { kept = kept; lost = lost; named = ap answer_reply e; lowest_kept = k; lowest_lost = l; shown = s; keeps = p })
 
 -- and an outermost end with a store since its begin is lost
-pub else_end_lost : {answer : Answer} {f : Finding} {h now : History} {n : ℕ} → answer ≡ Found f → Ended h now n f → depth h ≡ 1 → Since h stores_some →
+pub else_end_lost : {answer : Answer} {h now : History} {n : ℕ} {f : Finding} → answer ≡ Found f → Ended h now n f → depth h ≡ 1 → Since h stores_some →
     (answer_reply answer ≡ holds) ⊎ LostAt now n (λ b. Since h (stores_byte b)) (answer_reply answer)
 else_end_lost e (Ended.inner d) outermost some = absurd (d outermost)
 else_end_lost e (Ended.empty d none) outermost some = absurd (none some)

@@ -35,6 +35,7 @@ not_nine lines h r k (First.later a (First.here t)) e = omega (arith, e)
 not_nine lines h r k (First.later a (First.later b (First.here t))) e = omega (arith, e)
 not_nine lines h r k (First.later a (First.later b (First.later c (First.here t)))) e = omega (arith, e)
 not_nine lines h r k (First.later a (First.later b (First.later c (First.later d (First.here t))))) e = omega (arith, e)
+not_nine lines h r k (First.later a (First.later b (First.later c (First.later d (First.later t none))))) e = elim none [ ]
 
 module _ (asked : ℕ) (given : List Record) (r : Record) where
   not_past : (at : ℕ) → any_range (is_past (window_of asked)) (ranges_of r.event) ≡ false → given_reply (give_of (run_from asked given) r) ≢ Reply.refused 9 at

@@ -57,6 +57,7 @@ first_shares v e (First.later p (First.here t)) n =
 first_shares v e (First.later p (First.later s (First.here t))) n = absurd (omega (arith, n))
 first_shares v e (First.later p (First.later s (First.later a (First.here t)))) n = absurd (omega (arith, n))
 first_shares v e (First.later p (First.later s (First.later a (First.later b (First.here t))))) n = absurd (omega (arith, n))
+first_shares v e (First.later p (First.later s (First.later a (First.later b (First.later t none))))) n = elim none [ ]
 
 module _ (asked : ℕ) (given : List Record) (r : Record) where
   only_such : (at : ℕ) → given_reply (give_of (run_from asked given) r) ≡ Reply.refused 18 at → OrderedShares (window_of asked) r.event
@@ -82,7 +83,7 @@ stops_after {count = suc count} n m Takes.done less e k = let same : m ≡ n = o
 stops_after {lines} {count = suc count} n m {all = all} {s = s} {x = x} (Takes.takes {count = before} j rest) less e k =
     let place : record_size + record_size * before ≡ record_size * suc before = omega arith in
     let next : First (record_limits lines all (take record_size (drop (record_size * before) (drop record_size s)))) x = rw (drop-drop (record_size * before) record_size s, place) k in
-    Stops.later j (stops_after {count = count} (suc n) m rest (omega (arith, less)) (omega arith) next)
+    Stops.later j (stops_after {before = before} {count = count} (suc n) m rest (omega (arith, less)) (omega arith) next)
 
 -- without 18 the limits are those that there were before
 as_before : (v : View) (e : Event) → ranges_share e ≡ false → refusal_by v e ≡ first_broken (take 1 (limits_by v e) ++ drop 2 (limits_by v e))

@@ -71,7 +71,7 @@ pub record SwappedTrace (trace area : List ℕ) (before : ℕ) : Type 0 where
   pub events_exchanged : events_in (records_swapped before trace) ≡ in_turn first b [] a later
   pub window : lines_in (records_swapped before trace) ≡ lines_in trace
   -- the findings area: the two findings are exchanged, with their sites, and in those behind them the two numbers are
-  pub area : area_after (records_swapped before trace) area ≡ findings_swapped before (trailer_of trace).count (area_after trace area)
+  pub area_exchanged : area_after (records_swapped before trace) area ≡ findings_swapped before (trailer_of trace).count (area_after trace area)
   -- the findings that are shown, and how many
   pub rows : rows_from 0 (trailer_of trace).count (area_after (records_swapped before trace) area) ≡
       rows_swapped before (trailer_of trace).count (area_after trace area)

@@ -1,0 +1,14 @@
+-- `reports::paging::put_report` meets its contract: what `pages::pages` answers decides between the refusal and the pages.
+use Rattle.reports.proofs.Pages.{refusal_put, pages_put}
+use Rattle.reports.proofs.paging.put_report.Goals as goal
+
+pub returns-in-Refused : goal.returns-in-Refused
+returns-in-Refused c =
+    let k = c.args in
+    refusal_put k.area.now k.text-1.now c.pages.ensures.0 c.refusal-1.given.1 c.number.ensures c.pages.ensures.1
+    c.refusal.ensures
+
+pub returns-in-Written : goal.returns-in-Written
+returns-in-Written c =
+    let k = c.args in
+    pages_put k.area.now k.text-1.now c.pages.ensures.0 c.length-1.given.1 c.pages.ensures.1
