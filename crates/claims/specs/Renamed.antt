@@ -1,7 +1,6 @@
 -- Event numbers renamed where an answer, the bytes of a finding or a finding that is printed name them; and what changes with two
 -- neighbours: the records of a trace, its findings area, and the findings that are shown.
-use Rattle.std.specs.Prelude.{List, [], ◌∷◌, ◌++◌, map, ℕ, zero, suc, ◌+◌, ◌-◌, ◌*◌, ◌/◌, length, take, drop}
-use Rattle.event.specs.declared.Fields.{Fields}
+use Rattle.std.specs.Prelude.{List, ◌++◌, map, ℕ, zero, suc, ◌+◌, ◌-◌, ◌*◌, ◌/◌, length, take, drop}
 use Rattle.event.specs.Numbers.{fields_with}
 use Rattle.event.specs.Reply.{Reply}
 use Rattle.codec.specs.Codec.{u16_at, u16_bytes, finding_size}

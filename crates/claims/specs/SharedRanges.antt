@@ -1,7 +1,7 @@
 -- Request 8: ranges ordered against themselves. An ordered whose A and B share a byte is refused by 18, after 9 and before 10: given
 -- singly, in a trace at its record, and by the writer. What is said of events given singly is over every list of given events from the
 -- run of every asked line count.
-use Rattle.std.specs.Prelude.{◌≡◌, true, false, ◌⊎◌, ◌↔◌, ℕ, suc, ◌+◌, ◌*◌, ◌≤◌, ◌<◌, take, drop}
+use Rattle.std.specs.Prelude.{◌≡◌, true, false, ◌⊎◌, ◌↔◌, ℕ, suc, ◌+◌, ◌≤◌, ◌<◌, take, drop}
 use mathlib.Core.List.{List, [], ◌++◌, Memᴰ}
 use Rattle.event.specs.declared.Range.{Range}
 use Rattle.event.specs.declared.Event.{Event}

@@ -11,5 +11,5 @@ returns c =
     let number = blank in
     let word = number in
     let k = word.args in
-    four (ascii "byte ") (decimal k.byte) (ascii " ") (interval_text k.i k.s) (out k.text-1.now 0)
+    four (ascii "byte ") (decimal k.byte) (ascii " ") (interval_text k.i k.s) (out k.text.now 0)
     word.put-a.ensures number.number-b.ensures blank.put-c.ensures rest.put_interval.ensures

@@ -6,11 +6,11 @@ use Rattle.reports.proofs.asking.put_report.Goals as goal
 pub returns-in-Refused : goal.returns-in-Refused
 returns-in-Refused c =
     let k = c.args in
-    refusal_put k.input.now c.u16_at-byte.ensures c.trace_in.ensures c.interval.ensures (out k.text-1.now 0) c.refusal-1.given.1
+    refusal_put k.input.now c.u16_at-byte.ensures c.trace_in.ensures c.interval.ensures (out k.text.now 0) c.in-Refused.is
     c.number.ensures c.refusal.ensures
 
 pub returns-in-Known : goal.returns-in-Known
 returns-in-Known c =
     let k = c.args in
-    known_put k.input.now c.u16_at-byte.ensures c.trace_in.ensures c.interval.ensures (out k.text-1.now 0) c.interval-1.given.1
+    known_put k.input.now c.u16_at-byte.ensures c.trace_in.ensures c.interval.ensures (out k.text.now 0) c.in-Known.is
     c.put_known.ensures

@@ -12,5 +12,5 @@ returns c =
     let last = feed in
     let first = last in
     let k = first.args in
-    three (ascii "exposure " ++ decimal k.quotient ++ ascii " " ++ decimal k.remainder ++ ascii " ") (decimal k.divisor) (ascii "\n") (out k.text-1.now 0)
+    three (ascii "exposure " ++ decimal k.quotient ++ ascii " " ++ decimal k.remainder ++ ascii " ") (decimal k.divisor) (ascii "\n") (out k.text.now 0)
     first.phrase-a.ensures last.number-b.ensures feed.put.ensures

@@ -6,9 +6,9 @@ use Rattle.reports.proofs.exposing.put_report.Goals as goal
 pub returns-in-Refused : goal.returns-in-Refused
 returns-in-Refused c =
     let k = c.args in
-    refusal_put k.trace.now (out k.text-1.now 0) c.exposure.ensures c.refusal-1.given.1 c.number.ensures c.refusal.ensures
+    refusal_put k.trace.now (out k.text.now 0) c.exposure.ensures c.in-Refused.is c.number.ensures c.refusal.ensures
 
 pub returns-in-Mean : goal.returns-in-Mean
 returns-in-Mean c =
     let k = c.args in
-    mean_put k.trace.now (out k.text-1.now 0) c.exposure.ensures c.quotient-1.given.1 c.put_mean.ensures
+    mean_put k.trace.now (out k.text.now 0) c.exposure.ensures c.in-Mean.is c.put_mean.ensures

@@ -5,10 +5,10 @@ use Rattle.reports.proofs.paging.put_report.Goals as goal
 pub returns-in-Refused : goal.returns-in-Refused
 returns-in-Refused c =
     let k = c.args in
-    refusal_put k.area.now k.text-1.now c.pages.ensures.0 c.refusal-1.given.1 c.number.ensures c.pages.ensures.1
+    refusal_put k.area.now k.text.now c.pages.ensures.value c.in-Refused.is c.number.ensures c.pages.ensures.area_after
     c.refusal.ensures
 
 pub returns-in-Written : goal.returns-in-Written
 returns-in-Written c =
     let k = c.args in
-    pages_put k.area.now k.text-1.now c.pages.ensures.0 c.length-1.given.1 c.pages.ensures.1
+    pages_put k.area.now k.text.now c.pages.ensures.value c.in-Written.is c.pages.ensures.area_after
