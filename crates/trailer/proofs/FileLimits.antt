@@ -1,6 +1,6 @@
 -- The limits 1 to 5 one after another, as the code tests them.
 use mathlib.Core.Path.{◌≡◌, ap, ◌∙◌}
-use mathlib.Core.Bool.{Bool, true, false, not}
+use mathlib.Core.Bool.{Bool, true, false}
 use mathlib.Core.List.{List}
 use Prim.Native.Nat.{ℕ, ◌-◌, ◌≤◌, ◌<◌}
 use native.Mathlib.Omega.{arith}
@@ -44,11 +44,11 @@ module _ (s : List ℕ) where
         is_mark : m ≡ has_mark (trailer_bytes s)
         is_mark = marked ∙ ap has_mark last16_is
 
-        pub mark_differs : not m ≡ true → Refused MarkDiffers ≡ opened_of s
+        pub mark_differs : m ≡ false → Refused MarkDiffers ≡ opened_of s
         unfolding opened_of
         mark_differs k = rw (le-ltb (length s) 16 enough, le-ltb 65536 (length s) few, ← is_mark, k)
 
-        module _ (same : not m ≡ false) {t : Trailer} (read : t ≡ trailer_from last16) where
+        module _ (same : m ≡ true) {t : Trailer} (read : t ≡ trailer_from last16) where
           is_trailer : t ≡ trailer_of s
           is_trailer = last_trailer read
 
@@ -57,10 +57,10 @@ module _ (s : List ℕ) where
           bad_lines_lem e k = rw (le-ltb (length s) 16 enough, le-ltb 65536 (length s) few, ← is_mark, same, ← is_trailer, ← e, k)
 
           module _ {b : Bool} (window : b ≡ bad_window t) (fine : b ≡ false) where
-            pub length_differs : {a : Bool} → a ≡ eqb (end_of t) (length s) → not a ≡ true → Refused LengthDiffers ≡ opened_of s
+            pub length_differs : {a : Bool} → a ≡ eqb (end_of t) (length s) → a ≡ false → Refused LengthDiffers ≡ opened_of s
             unfolding opened_of
             length_differs e k = rw (le-ltb (length s) 16 enough, le-ltb 65536 (length s) few, ← is_mark, same, ← is_trailer, ← window, fine, ← e, k)
 
-            pub opens : {a : Bool} → a ≡ eqb (end_of t) (length s) → not a ≡ false → Known t ≡ opened_of s
+            pub opens : {a : Bool} → a ≡ eqb (end_of t) (length s) → a ≡ true → Known t ≡ opened_of s
             unfolding opened_of
             opens e k = rw (le-ltb (length s) 16 enough, le-ltb 65536 (length s) few, ← is_mark, same, ← is_trailer, ← window, fine, ← e, k)

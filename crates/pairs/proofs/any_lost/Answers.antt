@@ -1,7 +1,6 @@
 -- `pairs::any_lost` meets its contract: after i turns it has found what is among the first i.
 -- Assumes nothing.
 use mathlib.Core.Path.{refl}
-use Prim.Native.Nat.{◌-◌}
 use native.Mathlib.Omega.{arith}
 use Rattle.history.specs.Found.{lowest}
 use Rattle.searches.proofs.Parts.{found_more}

@@ -1,6 +1,5 @@
 -- `pairs::skip_lost` meets its contract: what is left to skip leads to the same place as the whole.
 -- Assumes nothing.
-use Prim.Native.Nat.{◌-◌}
 use native.Mathlib.Omega.{arith}
 use Rattle.event.proofs.Laws.{equal_by}
 use Rattle.searches.proofs.Parts.{skip_here, skip_next, skip_end}

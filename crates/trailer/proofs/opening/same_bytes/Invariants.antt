@@ -1,5 +1,5 @@
 -- `trailer::opening::same_bytes` meets its contract. The loop's invariant: what is left of the two strings decides. The measure is how
--- many bytes are left. Assumes nothing.
+-- many bytes are left.
 use mathlib.Core.Path.{◌≡◌}
 use Prim.Native.Nat.{◌-◌, ◌≤◌}
 use lib.ListN.{length, drop}

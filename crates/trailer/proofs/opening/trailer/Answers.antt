@@ -1,4 +1,4 @@
--- `trailer::opening::trailer` meets its contract: it is read from the last 16 bytes, or from all of fewer. Assumes nothing.
+-- `trailer::opening::trailer` meets its contract: it is read from the last 16 bytes, or from all of fewer.
 use Rattle.trailer.proofs.FileLimits.{last_trailer, short_trailer}
 use Rattle.trailer.proofs.opening.trailer.Goals as goal
 

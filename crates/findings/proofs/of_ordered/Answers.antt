@@ -1,0 +1,21 @@
+-- `findings::of_ordered` meets its contract: the finding is at the pair that the search found, which is within the tables.
+use mathlib.Core.Path.{refl}
+use mathlib.Core.List.{[]}
+use native.Mathlib.Omega.{arith}
+use Rattle.tables.specs.Table.{in_tables}
+use Rattle.tables.specs.View.{run_of, no_counts}
+use Rattle.findings.proofs.Found.{ordered_found}
+use Rattle.pairs.proofs.Searched.{found_no_pair, found_pair, pair_below}
+use Rattle.findings.proofs.of_ordered.Goals as goal
+
+pub bounds-stored-k : goal.bounds-stored-k
+bounds-stored-k c = omega (arith, (pair_below _ _ _ _ (found_pair _ refl c.in-At.ensures)).0)
+
+pub bounds-stored-l : goal.bounds-stored-l
+bounds-stored-l c = omega (arith, (pair_below _ _ _ _ (found_pair _ refl c.in-At.ensures)).1)
+
+pub returns-in-Nothing : goal.returns-in-Nothing
+returns-in-Nothing c = let k = c.args in rw (ordered_found (run_of (no_counts 0) k.stored.now [] k.fenced.now [] [] [] [] []) (in_tables k.a) (in_tables k.b), found_no_pair _ refl c.in-Nothing.ensures)
+
+pub returns-in-At : goal.returns-in-At
+returns-in-At c = let k = c.args in rw (ordered_found (run_of (no_counts 0) k.stored.now [] k.fenced.now [] [] [] [] []) (in_tables k.a) (in_tables k.b), found_pair _ refl c.in-At.ensures)
