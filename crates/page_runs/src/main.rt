@@ -10,6 +10,12 @@ use std::io::{Read, Write};
 mod laying; // the calls that lay out the findings, printed
 mod setting; // the calls that change the findings area
 
+// The findings area has at most 65,537 findings.
+const SPACE: usize = 786444;
+
+// The page area has a line more than the longest pages.
+const PAGES: usize = 4203352;
+
 // The number in a call, and at most the length of a slice.
 fn size_in(bytes: &[u8], s: &[u8]) -> usize
     ensures { result ≡ min (number_in bytes.now) (length s.now) }
@@ -34,9 +40,18 @@ fn make_calls<R: Read, W: Write>(input: &mut R, out: &mut W, space: &mut [u8], p
     }
 }
 
-// The findings area has at most 65,537 findings, and the page area a line more than the longest pages.
+// The same, in spaces of these lengths.
+fn run<R: Read, W: Write>(
+    input: &mut R,
+    out: &mut W,
+    space: &mut [u8; SPACE],
+    pages: &mut [u8; PAGES],
+) {
+    make_calls(input, out, space, pages);
+}
+
 fn main(rt: HostRuntime) {
-    let mut space = [0u8; 786444];
-    let mut pages = [0u8; 4203352];
-    make_calls(&mut rt.stdin(), &mut rt.stdout(), &mut space, &mut pages);
+    let mut space = [0u8; SPACE];
+    let mut pages = [0u8; PAGES];
+    run(&mut rt.stdin(), &mut rt.stdout(), &mut space, &mut pages);
 }
