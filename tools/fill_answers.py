@@ -68,6 +68,13 @@ def main(argv):
                     keep.append(f"use {mu.group(1)}.{{{', '.join(items)}}}")
             else:
                 keep.append(u)
+        for n in ("refl", "sym"):
+            if used(n, body) and not any(u.startswith("use mathlib.Core.Path.{") and used(n, u) for u in keep):
+                at = [i for i, u in enumerate(keep) if u.startswith("use mathlib.Core.Path.{")]
+                if at:
+                    keep[at[0]] = keep[at[0]].replace("{", "{" + n + ", ", 1)
+                else:
+                    keep.insert(0, "use mathlib.Core.Path.{" + n + "}")
         os.makedirs(os.path.dirname(path), exist_ok=True)
         open(path, "w", encoding="utf-8").write("\n".join(head) + "\n" + "\n".join(keep) + "\n\n" + body)
     for fn, goals in left:

@@ -53,8 +53,21 @@ def step_names(f):
     return out
 
 
-def turn_body(body, f, steps):
+def turn_body(body, f, steps, goal=""):
     body = re.sub(r"(?:\.before)+(?![\w-])", "", body)
+    while True:
+        # a name for the steps themselves
+        m = re.search(r"let ([a-z]) = c in\s*", body)
+        if not m:
+            break
+        rest = re.sub(r"(?<![\w.'-])" + m.group(1) + r"(?![\w'-])", "c", body[m.end():])
+        body = body[: m.start()] + rest
+    body = body.replace(".taken", ".true")
+    v = re.search(r"-in-([A-Z]\w*)", goal)
+    if v:
+        arm = f"c.in-{v.group(1)}.ensures"
+        body = re.sub(r"equal_by \w\.[\w-]+\.ensures c\.[\w-]+\.given\.1", f"sym {arm}", body)
+        body = re.sub(r"(found\w*) _ c\.[\w-]+\.given\.1 \w\.[\w-]+\.ensures", rf"\1 _ refl {arm}", body)
 
     def field(m):
         w = m.group(1)
@@ -141,14 +154,14 @@ def main(argv):
                 if re.sub(r"\s+", " ", rhs).strip() in ("search rules", "search needs"):
                     continue
                 goal = needs.get(norm(m.group(2)), "?" + m.group(2))
-                ans.append(f"pub {goal} : goal.{goal}\n{opens}{goal}{mm.group(2).replace(' κs', '')} ={turn_body(rhs, f, steps)}\n")
+                ans.append(f"pub {goal} : goal.{goal}\n{opens}{goal}{mm.group(2).replace(' κs', '')} ={turn_body(rhs, f, steps, goal)}\n")
                 continue
             if sig.startswith(("use ", "-- ", "pub ")):
                 continue
             ans.append("\n".join(turn_body(x, f, steps) for x in b).rstrip() + "\n")
         us = [l for b in uses for l in b if l.startswith("use ") and "Statement" not in l and ".Tie as" not in l]
         path = f"Rattle.{crate}.proofs.{rel}"
-        header = "\n".join(x for b in head for x in b).rstrip()
+        header = "\n".join(x for b in head for x in b).replace("\n-- Assumes nothing.", "").replace(" Assumes nothing.", "").rstrip()
         if inv and not os.path.exists(os.path.join(folder, "Invariants.antt")):
             text_inv = "\n".join(inv)
             keep = []
