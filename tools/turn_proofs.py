@@ -62,7 +62,7 @@ def turn_body(body, f, steps, goal=""):
             break
         rest = re.sub(r"(?<![\w.'-])" + m.group(1) + r"(?![\w'-])", "c", body[m.end():])
         body = body[: m.start()] + rest
-    body = body.replace(".taken", ".true")
+    body = re.sub(r"\.([a-z_]\w*)-1\.now", r".\1.now", body).replace(".taken", ".true")
     v = re.search(r"-in-([A-Z]\w*)", goal)
     if v:
         arm = f"c.in-{v.group(1)}.ensures"

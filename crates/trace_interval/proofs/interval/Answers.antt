@@ -1,15 +1,11 @@
 -- `trace_interval::interval` meets its contract: the trailer decides, and then the records.
-use mathlib.Core.Path.{◌∙◌}
-use Rattle.event.proofs.Laws.{equal_by}
+use mathlib.Core.Path.{sym, ◌∙◌}
 use Rattle.trace_interval.proofs.Trace.{refused_trailer, trace_interval}
 use Rattle.trace_interval.proofs.interval.Goals as goal
 
 pub returns-in-Refused : goal.returns-in-Refused
-returns-in-Refused c =
-    let k = c.args in
-    refused_trailer k.trace.now k.byte (equal_by c.«open».ensures c.x-1.given.1)
+returns-in-Refused c = refused_trailer c.args.trace.now c.args.byte (sym c.in-Refused.ensures)
 
 pub returns-in-Known : goal.returns-in-Known
 returns-in-Known c =
-    let k = c.args in
-    c.records_interval.ensures ∙ trace_interval k.trace.now k.byte (equal_by c.«open».ensures c.t-1.given.1) c.part.ensures
+    c.records_interval.ensures ∙ trace_interval c.args.trace.now c.args.byte (sym c.in-Known.ensures) c.part.ensures

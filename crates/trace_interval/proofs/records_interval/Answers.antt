@@ -9,13 +9,13 @@ use Rattle.trace_interval.proofs.records_interval.Goals as goal
 pub returns-in-Refused : goal.returns-in-Refused
 returns-in-Refused c =
     let k = c.args in
-    let check = fresh_check k.count k.lines k.records.now [] c.no_counts.ensures c.give_records-j.ensures.0 in
-    ends_refused (records_of k.count k.records.now) (all_judged k.count k.lines k.records.now []) k.byte check c.check-1.given.1
+    let check = fresh_check k.count k.lines k.records.now [] c.no_counts.ensures c.give_records-j.ensures.check_value in
+    ends_refused (records_of k.count k.records.now) (all_judged k.count k.lines k.records.now []) k.byte check c.in-Refused.is
 
 pub returns-in-Passed : goal.returns-in-Passed
 returns-in-Passed c =
     let k = c.args in
-    let check = fresh_check k.count k.lines k.records.now [] c.no_counts.ensures c.give_records-j.ensures.0 in
-    let held = fresh_stage k.count k.lines k.records.now [] c.no_counts.ensures c.give_records-j.ensures.1 in
-    ends_passed (records_of k.count k.records.now) (all_judged k.count k.lines k.records.now []) k.byte check c.enum_told-1.given.1
-    held c.ask.ensures c.answer.ensures
+    let check = fresh_check k.count k.lines k.records.now [] c.no_counts.ensures c.give_records-j.ensures.check_value in
+    let held = fresh_stage k.count k.lines k.records.now [] c.no_counts.ensures c.give_records-j.ensures.buffer_after in
+    ends_passed (records_of k.count k.records.now) (all_judged k.count k.lines k.records.now []) k.byte check c.in-Passed.is held
+    c.ask.ensures c.answer.ensures

@@ -1,7 +1,5 @@
 -- `trace_interval::site_of` meets its contract: an event has the site of the record with its number.
-use mathlib.Core.Path.{sym, ap, ◌∙◌}
 use native.Mathlib.Omega.{arith}
-use Rattle.trace_interval.specs.TraceInterval.{site_of}
 use Rattle.trace_interval.proofs.RecordSite.{site_read, site_none}
 use Rattle.trace_interval.proofs.site_of.Goals as goal
 
@@ -11,9 +9,9 @@ returns-then-count-n c = let k = c.args in site_none k.count k.records.now k.eve
 pub returns-in-Refused : goal.returns-in-Refused
 returns-in-Refused c =
     let k = c.args in
-    sym (ap site_of c.enum_told-1.given.1) ∙ site_read k.count k.records.now k.event (omega arith) c.if-count-n.false c.record_at.ensures
+    site_read k.count k.records.now k.event (omega arith) c.if-count-n.false c.in-Refused.ensures
 
 pub returns-in-Read : goal.returns-in-Read
 returns-in-Read c =
     let k = c.args in
-    sym (ap site_of c.r-1.given.1) ∙ site_read k.count k.records.now k.event (omega arith) c.if-count-n.false c.record_at.ensures
+    site_read k.count k.records.now k.event (omega arith) c.if-count-n.false c.in-Read.ensures
