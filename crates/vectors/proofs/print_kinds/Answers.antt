@@ -1,5 +1,5 @@
 -- The name of a kind is within its buffer.
-use Rattle.std.proofs.Common.{◌≤◌, length, sym, length-take-le}
+use Rattle.std.proofs.Common.{sym, length-take-le}
 use Rattle.std.proofs.Math.ListN.{replicate}
 use Rattle.finding_lines.specs.Lines.{name_of}
 use Rattle.vectors.proofs.Part.{counts_put}
