@@ -5,67 +5,68 @@ ghost use Rattle.engine.specs.Call.{fresh_of};
 ghost use Rattle.engine_runs.specs.Runs.{after_record, after_fences, after_call};
 
 use event::{Answer, Check, Event, Parsed, Record};
+use std::io::Write;
 use tables::Run;
 
 // A fresh window of so many lines, and what the check says.
-fn print_fresh(lines: u16, c: Check) {
-    call_lines::field(b"fresh ", lines);
-    call_lines::answered(replies::of_check(c));
+fn print_fresh<W: Write>(out: &mut W, lines: u16, c: Check) {
+    call_lines::field(out, b"fresh ", lines);
+    call_lines::answered(out, replies::of_check(c));
 }
 
 // A fresh window, and the run that it hands over.
-fn fresh(lines: u16) -> Run
+fn fresh<W: Write>(out: &mut W, lines: u16) -> Run
     ensures { result ≡ (fresh_of lines).run }
 {
     let w = engine::fresh(lines);
     let check = w.check;
-    print_fresh(lines, check);
+    print_fresh(out, lines, check);
     w.run
 }
 
 // An event given in the bytes of a record, and its answer.
-fn print_given(bytes: &[u8], a: Answer) {
-    call_lines::record(b"give ", bytes);
-    call_lines::answered(replies::of_answer(a));
+fn print_given<W: Write>(out: &mut W, bytes: &[u8], a: Answer) {
+    call_lines::record(out, b"give ", bytes);
+    call_lines::answered(out, replies::of_answer(a));
 }
 
 // An event given, and the run after it. A record that cannot be read changes nothing.
-fn give(run: Run, bytes: &[u8]) -> Run
+fn give<W: Write>(out: &mut W, run: Run, bytes: &[u8]) -> Run
     ensures { result ≡ after_record run (parsed bytes.now) }
 {
     match records::read_record(bytes) {
         Parsed::Refused(x) => {
-            print_given(bytes, Answer::Refused(x));
+            print_given(out, bytes, Answer::Refused(x));
             run
         }
         Parsed::Read(r) => {
             let g = engine::give(run, r);
             let answer = g.answer;
-            print_given(bytes, answer);
+            print_given(out, bytes, answer);
             g.run
         }
     }
 }
 
 // A byte asked.
-fn ask(run: Run, byte: u16) {
+fn ask<W: Write>(out: &mut W, run: Run, byte: u16) {
     let a = engine::ask(run, byte);
-    call_lines::field(b"ask ", byte);
-    call_lines::answered(replies::of_asked(a));
+    call_lines::field(out, b"ask ", byte);
+    call_lines::answered(out, replies::of_asked(a));
 }
 
 // The run closed.
-fn close(run: Run) {
+fn close<W: Write>(out: &mut W, run: Run) {
     let c = engine::close(run);
-    call_lines::words(b"close");
-    call_lines::answered(replies::of_closing(c));
+    call_lines::words(out, b"close");
+    call_lines::answered(out, replies::of_closing(c));
 }
 
 // The run asked for its mean exposure.
-fn expose(run: Run) {
+fn expose<W: Write>(out: &mut W, run: Run) {
     let e = exposure::exposure(run);
-    call_lines::words(b"exposure");
-    call_lines::answered(replies::of_exposed(e));
+    call_lines::words(out, b"exposure");
+    call_lines::answered(out, replies::of_exposed(e));
 }
 
 // So many fences given, with no line printed, and the run after them.
@@ -88,26 +89,26 @@ fn give_fences(run: Run, count: u16) -> Run
 
 // The call in 12 bytes, and the run after it: kinds 1 to 8 are events, 16 a fresh window, 17 a byte asked, 18 a closing, 19 fences, 20 the mean
 // exposure.
-pub fn call(run: Run, bytes: &[u8]) -> Run
+pub fn call<W: Write>(out: &mut W, run: Run, bytes: &[u8]) -> Run
     ensures { result ≡ after_call run bytes.now }
 {
     let kind = codec::byte_at(bytes, 0);
     let number = codec::u16_at(bytes, 2);
     match kind {
-        16 => fresh(number),
+        16 => fresh(out, number),
         17 => {
-            ask(run, number);
+            ask(out, run, number);
             run
         }
         18 => {
-            close(run);
+            close(out, run);
             run
         }
         19 => give_fences(run, number),
         20 => {
-            expose(run);
+            expose(out, run);
             run
         }
-        _ => give(run, bytes),
+        _ => give(out, run, bytes),
     }
 }

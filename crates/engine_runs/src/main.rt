@@ -6,12 +6,18 @@
 ghost use Rattle.std.specs.Prelude.{◌≡◌, length};
 
 use file::Writer;
-use libc::STDIN_FILENO;
+use std::io::{Read, Write};
 
 mod calls; // the calls of the engine, printed
 
 // Makes the calls, at most a million. The area and the preamble are the first bytes of their spaces; `before` has room for the area.
-fn make_calls(area: &mut [u8], before: &mut [u8], preamble: &mut [u8])
+fn make_calls<R: Read, W: Write>(
+    input: &mut R,
+    out: &mut W,
+    area: &mut [u8],
+    before: &mut [u8],
+    preamble: &mut [u8],
+)
     requires { length area.old ≡ length preamble.old }
 {
     let w = engine::fresh(1);
@@ -28,15 +34,16 @@ fn make_calls(area: &mut [u8], before: &mut [u8], preamble: &mut [u8])
     let mut left: u32 = 1000000;
     while 0 < left {
         left -= 1;
-        if io::read_full(STDIN_FILENO, &mut bytes) < 12 {
+        if stdio::read_full(input, &mut bytes) < 12 {
             return;
         }
         if bytes[0] < 32 {
-            run = calls::call(run, &bytes);
+            run = calls::call(out, run, &bytes);
         } else {
             room = writer_calls::setting::area(area, room, &bytes);
             free = writer_calls::setting::preamble(preamble, free, &area[..room], &bytes);
             writer = writer_calls::writing::answer(
+                out,
                 &mut area[..room],
                 before,
                 &preamble[..free],
@@ -47,9 +54,15 @@ fn make_calls(area: &mut [u8], before: &mut [u8], preamble: &mut [u8])
     }
 }
 
-fn main() {
+fn main(rt: HostRuntime) {
     let mut area = [0u8; 65600];
     let mut before = [0u8; 65600];
     let mut preamble = [0u8; 65600];
-    make_calls(&mut area, &mut before, &mut preamble);
+    make_calls(
+        &mut rt.stdin(),
+        &mut rt.stdout(),
+        &mut area,
+        &mut before,
+        &mut preamble,
+    );
 }

@@ -4,6 +4,7 @@ ghost use Rattle.pages.specs.Paged.{paged_of};
 ghost use Rattle.page_runs.specs.Laying.{laid_out, written_of, is_layout, area_after_call};
 
 use pages::Paged;
+use std::io::Write;
 
 // Lays out the findings in the page area, each byte of which is A5h before.
 fn lay_out(findings: &[u8], area: &mut [u8]) -> Paged
@@ -15,12 +16,12 @@ fn lay_out(findings: &[u8], area: &mut [u8]) -> Paged
 }
 
 // The line: the lengths of both areas, the answer, and the sum of the page area's bytes.
-fn print_line(findings: &[u8], area: &[u8], p: Paged) {
-    call_lines::place(b"pages of ", findings.len());
-    call_lines::place(b" bytes in ", area.len());
-    call_lines::reply(replies::of_paged(p));
-    call_lines::field(b" sum ", writer_calls::changes::sum(area));
-    call_lines::words(b"\n");
+fn print_line<W: Write>(out: &mut W, findings: &[u8], area: &[u8], p: Paged) {
+    call_lines::place(out, b"pages of ", findings.len());
+    call_lines::place(out, b" bytes in ", area.len());
+    call_lines::reply(out, replies::of_paged(p));
+    call_lines::field(out, b" sum ", writer_calls::changes::sum(area));
+    call_lines::words(out, b"\n");
 }
 
 // How many bytes of the page area were written.
@@ -47,16 +48,16 @@ fn is_layout(kind: u8) -> bool
 }
 
 // The call of this kind: 4 lays out the findings, 5 prints the pages too. Any other changes nothing.
-pub fn call(findings: &[u8], area: &mut [u8], kind: u8)
+pub fn call<W: Write>(out: &mut W, findings: &[u8], area: &mut [u8], kind: u8)
     ensures { area.new ≡ area_after_call kind findings.now area.old }
 {
     if !is_layout(kind) {
         return;
     }
     let p = lay_out(findings, area);
-    print_line(findings, area, p);
+    print_line(out, findings, area, p);
     if kind == 5 {
         let n = written(area, p);
-        call_lines::words(&area[..n]);
+        call_lines::words(out, &area[..n]);
     }
 }

@@ -5,10 +5,16 @@
 ghost use Rattle.std.specs.Prelude.{◌≡◌, min, length};
 ghost use Rattle.page_runs.specs.Setting.{number_in};
 
-use libc::STDIN_FILENO;
+use std::io::{Read, Write};
 
 mod laying; // the calls that lay out the findings, printed
 mod setting; // the calls that change the findings area
+
+// The findings area has at most 65,537 findings.
+const SPACE: usize = 786444;
+
+// The page area has a line more than the longest pages.
+const PAGES: usize = 4203352;
 
 // The number in a call, and at most the length of a slice.
 fn size_in(bytes: &[u8], s: &[u8]) -> usize
@@ -19,24 +25,33 @@ fn size_in(bytes: &[u8], s: &[u8]) -> usize
 }
 
 // Makes the calls, at most a million. The findings area and the page area are the first bytes of their spaces.
-fn make_calls(space: &mut [u8], pages: &mut [u8]) {
+fn make_calls<R: Read, W: Write>(input: &mut R, out: &mut W, space: &mut [u8], pages: &mut [u8]) {
     let mut used: usize = 0;
     let mut bytes = [0u8; 24];
     let mut left: u32 = 1000000;
     while 0 < left {
         left -= 1;
-        if io::read_full(STDIN_FILENO, &mut bytes) < 24 {
+        if stdio::read_full(input, &mut bytes) < 24 {
             return;
         }
         used = setting::call(space, used, &bytes);
         let size = size_in(&bytes, pages);
-        laying::call(&space[..used], &mut pages[..size], bytes[0]);
+        laying::call(out, &space[..used], &mut pages[..size], bytes[0]);
     }
 }
 
-// The findings area has at most 65,537 findings, and the page area a line more than the longest pages.
-fn main() {
-    let mut space = [0u8; 786444];
-    let mut pages = [0u8; 4203352];
-    make_calls(&mut space, &mut pages);
+// The same, in spaces of these lengths.
+fn run<R: Read, W: Write>(
+    input: &mut R,
+    out: &mut W,
+    space: &mut [u8; SPACE],
+    pages: &mut [u8; PAGES],
+) {
+    make_calls(input, out, space, pages);
+}
+
+fn main(rt: HostRuntime) {
+    let mut space = [0u8; SPACE];
+    let mut pages = [0u8; PAGES];
+    run(&mut rt.stdin(), &mut rt.stdout(), &mut space, &mut pages);
 }

@@ -11,7 +11,7 @@ ghost use Rattle.pages.specs.Paged.{unless_damaged, in_room, paged_of, page_area
 use event::{Check, Refusal};
 
 // A refusal with the position of the finding from 1, or 0 for the findings area as a whole and for the page area; or the length written.
-#[derive(Drop)]
+#[derive(Clone, Copy)]
 pub enum Paged {
     Refused { refusal: Refusal, position: u16 },
     Written { length: u32 },

@@ -4,14 +4,20 @@
 use reports::exposing;
 
 // An input of more than 65,536 bytes is read as far as 65,537, and refused by 2.
-fn main() {
+fn main(rt: HostRuntime) {
     let mut trace = [0u8; 65537];
     let mut text = [0u8; exposing::LONGEST];
-    let input = stdio::read_input(&mut trace, b"pmexposure");
+    let input = stdio::read_input(&mut rt.stdin(), &mut rt.stderr(), &mut trace, b"pmexposure");
     if input.failed {
         return;
     }
     let len = input.len;
     let n = exposing::report(&trace[..len], &mut text);
-    stdio::write_output(&text[..n], n, b"pmexposure");
+    stdio::write_output(
+        &mut rt.stdout(),
+        &mut rt.stderr(),
+        &text[..n],
+        n,
+        b"pmexposure",
+    );
 }

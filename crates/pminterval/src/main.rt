@@ -5,14 +5,20 @@
 use reports::asking;
 
 // A trace of more than 65,536 bytes is read as far as 65,537, and refused by 2.
-fn main() {
+fn main(rt: HostRuntime) {
     let mut input = [0u8; 65539];
     let mut text = [0u8; asking::LONGEST];
-    let read = stdio::read_input(&mut input, b"pminterval");
+    let read = stdio::read_input(&mut rt.stdin(), &mut rt.stderr(), &mut input, b"pminterval");
     if read.failed {
         return;
     }
     let len = read.len;
     let n = asking::report(&input[..len], &mut text);
-    stdio::write_output(&text[..n], n, b"pminterval");
+    stdio::write_output(
+        &mut rt.stdout(),
+        &mut rt.stderr(),
+        &text[..n],
+        n,
+        b"pminterval",
+    );
 }

@@ -1,11 +1,10 @@
-// Standard input read into a slice, and bytes of a slice written to standard output. Where that fails, the complaint goes to standard
-// error, with the program's name in front.
+// A reader read into a slice, and bytes and numbers written to a writer. A program's reading of its standard input and its writing to
+// standard output complain on standard error where they fail, with the program's name in front.
 #![tactic(auto)]
 
-ghost use Rattle.std.specs.Prelude.{◌≡◌, min, length};
-ghost use Rattle.io.specs.Counts.{IsPrefixLen};
+ghost use Rattle.std.specs.Prelude.{◌≡◌, ◌≤◌, min, length};
 
-use libc::{STDERR_FILENO, STDIN_FILENO, STDOUT_FILENO};
+use std::io::{Read, Write};
 
 // How many bytes came, and whether a read failed after them.
 #[derive(Drop)]
@@ -14,26 +13,27 @@ pub struct Input {
     pub failed: bool,
 }
 
-// One read of standard input. A read that fails brings no byte.
-fn read_some(buf: &mut [u8]) -> Input
-    ensures { IsPrefixLen result.len buf.new }
+// One read. A read that fails brings no byte.
+fn read_some<R: Read>(from: &mut R, buf: &mut [u8]) -> Input
+    ensures { result.len ≤ length buf.new }
 {
-    let got = libc::read(STDIN_FILENO, buf);
-    let len = io::count(got, buf);
-    Input {
-        len,
-        failed: got < 0,
+    match from.read(buf) {
+        Ok(len) => Input { len, failed: false },
+        Err(_) => Input {
+            len: 0,
+            failed: true,
+        },
     }
 }
 
-// Reads standard input until the buffer is full, the input ends or a read fails.
-fn read_all(buf: &mut [u8]) -> Input
-    ensures { IsPrefixLen result.len buf.new }
+// Reads until the buffer is full, the input ends or a read fails.
+fn read_all<R: Read>(from: &mut R, buf: &mut [u8]) -> Input
+    ensures { result.len ≤ length buf.new }
 {
     let mut done = 0;
     let mut failed = false;
     while done < buf.len() {
-        let some = read_some(&mut buf[done..]);
+        let some = read_some(from, &mut buf[done..]);
         failed = some.failed;
         if some.len == 0 {
             break;
@@ -43,21 +43,62 @@ fn read_all(buf: &mut [u8]) -> Input
     Input { len: done, failed }
 }
 
-// `pmjudge: standard input cannot be read`
-fn complain(name: &[u8], words: &[u8]) {
-    io::write_all(STDERR_FILENO, name);
-    io::write_all(STDERR_FILENO, words);
+// The same, and how many bytes came: a read that fails counts as the input's end.
+pub fn read_full<R: Read>(from: &mut R, buf: &mut [u8]) -> usize
+    ensures { result ≤ length buf.new }
+{
+    read_all(from, buf).len
 }
 
-// The same, and complains where a read failed.
-pub fn read_input(buf: &mut [u8], name: &[u8]) -> Input
-    ensures { IsPrefixLen result.len buf.new }
+// One write, and how many bytes it took. A write that fails takes none.
+fn write_some<W: Write>(to: &mut W, buf: &[u8]) -> usize
+    ensures { result ≤ length buf.now }
 {
-    let input = read_all(buf);
-    if input.failed {
-        complain(name, b": standard input cannot be read\n");
+    match to.write(buf) {
+        Ok(len) => len,
+        Err(_) => 0,
     }
-    input
+}
+
+// Writes all of the bytes and answers true, or stops at the first write that takes none or fails and answers false, when some of them may
+// have been written.
+pub fn write_all<W: Write>(to: &mut W, buf: &[u8]) -> bool {
+    let mut done = 0;
+    while done < buf.len() {
+        let len = write_some(to, &buf[done..]);
+        if len == 0 {
+            return false;
+        }
+        done += len;
+    }
+    true
+}
+
+// Writes a number in decimal, and answers whether all of it was written.
+pub fn write_decimal<W: Write>(to: &mut W, n: u64) -> bool {
+    write!(to, "{n}").is_ok()
+}
+
+// `pmjudge: standard input cannot be read`
+fn complain<E: Write>(errors: &mut E, name: &[u8], words: &[u8]) {
+    write_all(errors, name);
+    write_all(errors, words);
+}
+
+// Reads until the buffer is full, the input ends or a read fails, and complains where a read failed.
+pub fn read_input<R: Read, E: Write>(
+    input: &mut R,
+    errors: &mut E,
+    buf: &mut [u8],
+    name: &[u8],
+) -> Input
+    ensures { result.len ≤ length buf.new }
+{
+    let read = read_all(input, buf);
+    if read.failed {
+        complain(errors, name, b": standard input cannot be read\n");
+    }
+    read
 }
 
 // A number, or the length of a buffer where that is less.
@@ -68,9 +109,15 @@ fn at_most(len: usize, buf: &[u8]) -> usize
 }
 
 // Writes the first bytes of a buffer, so many of them, or all where it has fewer, and complains where they cannot be written.
-pub fn write_output(buf: &[u8], len: usize, name: &[u8]) {
+pub fn write_output<W: Write, E: Write>(
+    output: &mut W,
+    errors: &mut E,
+    buf: &[u8],
+    len: usize,
+    name: &[u8],
+) {
     let n = at_most(len, buf);
-    if !io::write_all(STDOUT_FILENO, &buf[..n]) {
-        complain(name, b": cannot write to standard output\n");
+    if !write_all(output, &buf[..n]) {
+        complain(errors, name, b": cannot write to standard output\n");
     }
 }

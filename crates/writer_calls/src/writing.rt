@@ -7,6 +7,7 @@ ghost use Rattle.writer_calls.specs.Writing.{writer_of, after_start, record_in, 
 use crate::changes;
 use event::Check;
 use file::{Started, Writer};
+use std::io::Write;
 
 // The writer in the 12 bytes of a call.
 fn writer_of(bytes: &[u8]) -> Writer
@@ -21,24 +22,24 @@ fn writer_of(bytes: &[u8]) -> Writer
 }
 
 // A start with so many lines, and its answer; the line goes on.
-fn print_start(lines: u16, s: Started) {
-    call_lines::field(b"start ", lines);
-    call_lines::reply(replies::of_started(s));
+fn print_start<W: Write>(out: &mut W, lines: u16, s: Started) {
+    call_lines::field(out, b"start ", lines);
+    call_lines::reply(out, replies::of_started(s));
 }
 
 // An event written, and its answer; the line goes on.
-fn print_write(bytes: &[u8], c: Check) {
-    call_lines::record(b"write ", bytes);
-    call_lines::reply(replies::of_check(c));
+fn print_write<W: Write>(out: &mut W, bytes: &[u8], c: Check) {
+    call_lines::record(out, b"write ", bytes);
+    call_lines::reply(out, replies::of_check(c));
 }
 
 // A start, and the writer after it.
-fn start(area: &mut [u8], preamble: &[u8], w: Writer, lines: u16) -> Writer
+fn start<W: Write>(out: &mut W, area: &mut [u8], preamble: &[u8], w: Writer, lines: u16) -> Writer
     ensures value { result ≡ after_start (started_of area.old preamble.now lines) w }
     ensures area_after { area.new ≡ area_started area.old preamble.now lines }
 {
     let s = writer::start(area, preamble, lines);
-    print_start(lines, s);
+    print_start(out, lines, s);
     match s {
         Started::Refused(_) => w,
         Started::Ready(next) => next,
@@ -46,23 +47,23 @@ fn start(area: &mut [u8], preamble: &[u8], w: Writer, lines: u16) -> Writer
 }
 
 // An event as the bytes of a record, and the writer after it.
-fn write(area: &mut [u8], w: Writer, bytes: &[u8]) -> Writer
+fn write<W: Write>(out: &mut W, area: &mut [u8], w: Writer, bytes: &[u8]) -> Writer
     ensures value { result ≡ (bytes_written_of area.old w bytes.now).writer }
     ensures area_after { area.new ≡ area_bytes_written area.old w bytes.now }
 {
     let x = writer::write_bytes(area, w, bytes);
     let check = x.check;
-    print_write(bytes, check);
+    print_write(out, bytes, check);
     x.writer
 }
 
 // The file closed.
-fn finish(area: &mut [u8], w: Writer)
+fn finish<W: Write>(out: &mut W, area: &mut [u8], w: Writer)
     ensures { area.new ≡ area_closed area.old w }
 {
     let c = writer::close(area, w);
-    call_lines::words(b"finish");
-    call_lines::reply(replies::of_closed(c));
+    call_lines::words(out, b"finish");
+    call_lines::reply(out, replies::of_closed(c));
 }
 
 // The record in the 12 bytes of a call: its kind is the call's less 64, or a multiple of it.
@@ -83,20 +84,20 @@ fn is_answered(kind: u8) -> bool
 
 // The call in 12 bytes, and the writer after it: 35 is a start, 36 a closing, 37 a writer of any numbers, 64 and more an event. Any other
 // changes nothing.
-fn call(area: &mut [u8], preamble: &[u8], w: Writer, bytes: &[u8]) -> Writer
+fn call<W: Write>(out: &mut W, area: &mut [u8], preamble: &[u8], w: Writer, bytes: &[u8]) -> Writer
     ensures value { result ≡ writer_after_call area.old preamble.now w bytes.now }
     ensures area_after { area.new ≡ area_after_call area.old preamble.now w bytes.now }
 {
     match codec::byte_at(bytes, 0) {
-        35 => start(area, preamble, w, codec::u16_at(bytes, 2)),
+        35 => start(out, area, preamble, w, codec::u16_at(bytes, 2)),
         36 => {
-            finish(area, w);
+            finish(out, area, w);
             w
         }
         37 => writer_of(bytes),
         64..=255 => {
             let record = record_in(bytes);
-            write(area, w, &record)
+            write(out, area, w, &record)
         }
         _ => w,
     }
@@ -104,7 +105,8 @@ fn call(area: &mut [u8], preamble: &[u8], w: Writer, bytes: &[u8]) -> Writer
 
 // The same, with what it changed of the area printed behind an answer. `before` takes the area as it
 // was, where it has room.
-pub fn answer(
+pub fn answer<W: Write>(
+    out: &mut W,
     area: &mut [u8],
     before: &mut [u8],
     preamble: &[u8],
@@ -116,9 +118,9 @@ pub fn answer(
     ensures before_after { before.new ≡ placed 0 area.old before.old }
 {
     codec::put(before, 0, area);
-    let next = call(area, preamble, w, bytes);
+    let next = call(out, area, preamble, w, bytes);
     if is_answered(codec::byte_at(bytes, 0)) {
-        changes::print(before, area);
+        changes::print(out, before, area);
     }
     next
 }
