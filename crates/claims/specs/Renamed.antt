@@ -9,7 +9,7 @@ use Rattle.history.specs.Swap.{exchanged}
 use Rattle.trailer.specs.Trailer.{trailer_of}
 use Rattle.finding_lines.specs.declared.Row.{Row}
 use Rattle.finding_lines.specs.Rows.{row_with, row_at, if_shown, rows_from}
-use Rattle.claims.specs.Traces.{record_after}
+use Rattle.claims.specs.SharedRanges.{record_after}
 
 -- an event given: kind, lost and kept stay, and moment and store, behind them, are renamed
 abbrev pub renamed_finding : (ℕ → ℕ) → Reply → Reply

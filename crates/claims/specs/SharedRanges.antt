@@ -1,7 +1,7 @@
 -- Request 8: ranges ordered against themselves. An ordered whose A and B share a byte is refused by 18, after 9 and before 10: given
 -- singly, in a trace at its record, and by the writer. What is said of events given singly is over every list of given events from the
 -- run of every asked line count.
-use Rattle.std.specs.Prelude.{◌≡◌, true, false, ◌⊎◌, ◌↔◌, ℕ, suc, ◌+◌, ◌≤◌, ◌<◌, take, drop}
+use Rattle.std.specs.Prelude.{◌≡◌, true, false, ◌⊎◌, ◌↔◌, ℕ, suc, ◌+◌, ◌*◌, ◌≤◌, ◌<◌, take, drop}
 use mathlib.Core.List.{List, [], ◌++◌, Memᴰ}
 use Rattle.event.specs.declared.Range.{Range}
 use Rattle.event.specs.declared.Event.{Event}
@@ -25,12 +25,16 @@ use Rattle.file.specs.Write.{records_end, written_of, area_written}
 use Rattle.file.specs.Reply.{written_reply}
 use Rattle.verdict.specs.Verdict.{trace_limits}
 use Rattle.claims.specs.After.{run_from}
-use Rattle.claims.specs.Traces.{record_after, Takes, Rejected}
+use Rattle.claims.specs.Traces.{Takes, Rejected}
 
 -- an ordered, in a window of so many lines, whose A and B share a byte: both cover it
 pub data OrderedShares (lines : ℕ) : Event → Type 0 where
   shares : {a b : Range} (byte : ℕ) → range_end a ≤ window_bytes lines → range_end b ≤ window_bytes lines →
       covers a byte ≡ true → covers b byte ≡ true → OrderedShares lines (Ordered a b)
+
+-- the bytes of the record after so many
+abbrev pub record_after : (before : ℕ) (trace : List ℕ) → List ℕ
+record_after before trace = take record_size (drop (record_size * before) (record_part (trailer_of trace).offset trace))
 
 pub record SharedRanges : Type 0 where
   -- the limit is broken exactly if some byte is covered by A and by B; an empty range shares no byte

@@ -26,7 +26,7 @@ use Rattle.finding_lines.specs.Area.{line_of}
 use Rattle.listing.specs.Report.{report_of}
 use Rattle.page_layout.specs.Pages.{pages_with, pages_of}
 use Rattle.claims.specs.After.{run_from, taken_from, replies_from}
-use Rattle.claims.specs.Traces.{record_after}
+use Rattle.claims.specs.SharedRanges.{record_after}
 use Rattle.claims.specs.WhereClosed.{epochs_answered}
 use Rattle.claims.specs.Renamed.{renamed_finding, renamed_asked, renamed_with_sites, records_swapped, findings_swapped, renamed_row, rows_swapped}
 

@@ -23,10 +23,6 @@ use Rattle.claims.specs.After.{run_from}
 abbrev pub record_limits : (lines : ℕ) → History → List ℕ → List Limit
 record_limits lines h s = read_limits s ++ limits_by (of_history lines h) (record_of s).event
 
--- the bytes of the record after so many
-abbrev pub record_after : (before : ℕ) (trace : List ℕ) → List ℕ
-record_after before trace = take record_size (drop (record_size * before) (record_part (trailer_of trace).offset trace))
-
 -- so many records of 12 bytes, the first with number n, given after the history: number m is the first that is refused, and x
 -- refuses it
 pub data Stops (lines : ℕ) : (n : ℕ) → History → (count : ℕ) → List ℕ → (x : Refusal) (m : ℕ) → Type 0 where

@@ -84,7 +84,7 @@ fn put_columns(text: &mut [u8], at: usize, row: Row) -> usize
     text::put(text, e, b"\n")
 }
 
-// `5 14 out_of_order 0 64 2 1`, or nothing for the finding none.
+// `5 14 out-of-order 0 64 2 1`, or nothing for the finding none.
 pub fn finding(text: &mut [u8], at: usize, row: Row) -> usize
     ensures { out text.new result ≡ put (finding_line row.event row.site row.fields) (out text.old at) }
 {

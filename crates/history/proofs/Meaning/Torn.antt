@@ -88,7 +88,7 @@ words_allowed h i words a = record { happened = a.happened; least = a.least; mos
 pub words_independent : (h : History) (i : Image) (words : ℕ → ℕ → Bool) {b s : ℕ} → Torn h i (line_of b) s → Keeps h (with_words i words) s b ↔ (words (line_of b) (word_of b) ≡ true)
 words_independent h i words x = torn_keeps h (with_words i words) (record { piece = x.piece; by = x.by; not_whole = x.not_whole; oldest = x.oldest })
 
--- an image as they were before stores could be torn: no word is chosen. It is allowed as before (`words-allowed`), and keeps the
+-- an image as they were before stores could be torn: no word is chosen. It is allowed as before (`words_allowed`), and keeps the
 -- pieces that survive whole
 abbrev pub Untorn : Image → Type 0
 Untorn i = (l w : ℕ) → i.words l w ≡ false
