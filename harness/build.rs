@@ -1,4 +1,4 @@
-//! Links the proved judge: the static library that `rt staticlib pmjudge_c` writes.
+//! Links the proved judge: the static library that `scripts/build pmjudge_c` writes.
 
 use std::path::Path;
 
@@ -8,7 +8,7 @@ fn main() {
     let library = folder.join("libpmjudge_c.a");
     assert!(
         library.exists(),
-        "no target/staticlib/libpmjudge_c.a: run 'rt staticlib pmjudge_c' at the root of the repository first"
+        "no target/staticlib/libpmjudge_c.a: run 'scripts/build pmjudge_c' at the root of the repository first"
     );
     println!("cargo::rerun-if-changed={}", library.display());
     println!("cargo::rustc-link-search=native={}", folder.display());

@@ -1,7 +1,7 @@
 /*
  * The judge of persistent-memory traces, the writer of traces, the layout of findings for print, the
  * mean exposure of traces, and the persist interval of a byte, for programs in C and C++.
- * README.md says what a trace and a finding are. `rt staticlib pmjudge_c` builds the library,
+ * README.md says what a trace and a finding are. `scripts/build pmjudge_c` builds the library,
  * target/staticlib/libpmjudge_c.a.
  *
  * The library keeps nothing between calls, allocates nothing and prints nothing. No pointer may be
