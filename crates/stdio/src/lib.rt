@@ -2,7 +2,7 @@
 // standard output complain on standard error where they fail, with the program's name in front.
 #![tactic(auto)]
 
-ghost use Rattle.std.specs.Prelude.{◌≡◌, ◌≤◌, min, length};
+ghost use Rattle.std.specs.Prelude.{◌≡◌, ◌≤◌, min, length, take};
 
 use std::io::{Read, Write};
 
@@ -92,7 +92,8 @@ pub fn read_input<R: Read, E: Write>(
     buf: &mut [u8],
     name: &[u8],
 ) -> Input
-    ensures { result.len ≤ length buf.new }
+    ensures upper_bound { result.len ≤ length buf.new }
+    ensures counted { result.len ≡ length (take result.len buf.new) }
 {
     let read = read_all(input, buf);
     if read.failed {
