@@ -1,5 +1,5 @@
 -- One more byte put: it stands in the slice after the ones before it.
-use Rattle.std.proofs.Common.{◌+◌, ◌≤◌, ◌<◌, length, arith}
+use Rattle.std.proofs.Common.{arith}
 use lib.ListN.{length-set}
 use Rattle.codec.proofs.Placed.{put_more}
 use Rattle.codec.proofs.put.Goals as goal

@@ -10,7 +10,6 @@ use Rattle.event.specs.declared.Refusal.{Refusal}
 use Rattle.event.specs.declared.Answer.{Answer}
 use Rattle.event.specs.declared.Check.{Check}
 use Rattle.event.specs.declared.Check.TheVariants.{Passed, Refused as Breaks}
-use Rattle.history.specs.Count.{first}
 use Rattle.history.specs.History.{History}
 use Rattle.history.specs.View.{of_history}
 use Rattle.history.specs.Refused.{limits_by, NoneBroken, first_broken}

@@ -16,7 +16,6 @@ use Rattle.window.specs.Window.{line_of}
 use Rattle.history.specs.Count.{first}
 use Rattle.history.specs.History.{History, is, fences, stores_byte, writes_back_line}
 use Rattle.history.specs.Interval.{epoch_at, last_store, back_after, fence_after, interval_of, named_of}
-use Rattle.history.specs.Given.{after}
 use Rattle.history.proofs.Count.{first_is_lem, first_earliest}
 use Rattle.history.proofs.History.{is_number}
 use Rattle.history.proofs.Interval.{last_store_stores, last_store_latest, interval_none, interval_open, interval_closed, forced_closes, back_there, fence_after_lem, if_some_lem, named_none, named_stored}

@@ -20,7 +20,7 @@ use Rattle.event.proofs.Bools.{contradiction, fails, and_left, and_right, both}
 use Rattle.ranges.proofs.Meaning.{empty_covers, empty_touches, covers_some_lem, covers_first, empty_inside, empty_beyond}
 use Rattle.history.specs.Count.{count}
 use Rattle.history.specs.History.{History, is, stores, begins, ends, covers_byte, covers_some, stores_byte, stores_some, stores_line, writes_back_line, logs_byte, OfNoBytes}
-use Rattle.history.specs.Interval.{last_store, interval_of, named_of}
+use Rattle.history.specs.Interval.{interval_of, named_of}
 use Rattle.history.specs.Image.{pieces}
 use Rattle.history.specs.Transaction.{depth, outermost, Since}
 use Rattle.history.specs.View.{View, of_history}

@@ -2,14 +2,13 @@
 use Rattle.pass.proofs.Fresh.{bare_check, bare_stage_lem}
 use Rattle.pass.proofs.judge_records.Goals as goal
 
-pub returns-clause-check_value : goal.returns-clause-check_value
-returns-clause-check_value c =
-    let k = c.args in bare_check k.count k.lines k.records.now k.buffer.now c.no_counts.ensures c.give_records.ensures.check_value
-
-pub returns-clause-counts_value : goal.returns-clause-counts_value
-returns-clause-counts_value c =
-    let k = c.args in (bare_stage_lem k.count k.lines k.records.now k.buffer.now c.no_counts.ensures c.give_records.ensures.buffer_after).0
-
-pub returns-clause-buffer_after : goal.returns-clause-buffer_after
-returns-clause-buffer_after c =
-    let k = c.args in (bare_stage_lem k.count k.lines k.records.now k.buffer.now c.no_counts.ensures c.give_records.ensures.buffer_after).1
+pub returns : goal.returns
+returns c =
+    let k = c.args in
+    let e = c.give_records.ensures in
+    let stage = bare_stage_lem k.count k.lines k.records.now k.buffer.now c.no_counts.ensures e.buffer_after in
+    record {
+      check_value = bare_check k.count k.lines k.records.now k.buffer.now c.no_counts.ensures e.check_value;
+      counts_value = stage.0;
+      buffer_after = stage.1;
+    }
