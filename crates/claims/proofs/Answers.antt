@@ -1,4 +1,5 @@
 -- The run after events given from a fresh window, and what it answers: what the accepted events say.
+use Rattle.std.specs.Prelude.{Ok, Err}
 use mathlib.Core.Path.{◌≡◌, refl, sym, ap, ◌∙◌}
 use mathlib.Core.Bool.{Bool, true, false, cond, ◌||◌}
 use mathlib.Core.Logic.{◌⊎◌, inl, inr}
@@ -11,9 +12,7 @@ use borrow.Author.Tests.{ltb-false, lt-ltb, le-ltb}
 use Rattle.event.specs.declared.Record.{Record}
 use Rattle.event.specs.declared.Refusal.{Refusal}
 use Rattle.event.specs.declared.Refusal.TheVariants.{BadLines, PastWindow}
-use Rattle.event.specs.declared.Check.{Check}
-use Rattle.event.specs.declared.Check.TheVariants.{Passed, Refused as Breaks}
-use Rattle.event.specs.declared.Answer.TheVariants.{Refused, Found}
+use Rattle.event.specs.Answers.{Check, totals}
 use Rattle.event.specs.Reply.{Reply}
 use Rattle.window.specs.Window.{most_lines, window_bytes}
 use Rattle.history.specs.Interval.{epoch_at, named_of}
@@ -27,8 +26,6 @@ use Rattle.history.proofs.Given.{Checked, checked, answer_refused, answer_found}
 use Rattle.history.proofs.Meaning.Accepted.{Taken, accepted_taken}
 use Rattle.tables.specs.View.{of_run}
 use Rattle.events.specs.Give.{give_of}
-use Rattle.engine.specs.declared.Asked.TheVariants.{Refused as AskRefused, Known}
-use Rattle.engine.specs.declared.Closing.TheVariants.{Totals}
 use Rattle.engine.specs.Call.{ask_of, close_of}
 use Rattle.engine.specs.Tracks.{Tracks}
 use Rattle.engine.proofs.Histories.{taken_inside}
@@ -41,7 +38,7 @@ use Rattle.claims.specs.After.{run_from, taken_from, answers_from}
 pub window_fits : (asked : ℕ) → window_of asked ≤ most_lines
 window_fits asked = go (eqb asked 0) (ltb 64 asked) refl
   where
-    go : (none many : Bool) → ltb 64 asked ≡ many → window_for (cond (none || many) (Breaks BadLines) Passed) asked ≤ most_lines
+    go : (none many : Bool) → ltb 64 asked ≡ many → window_for (cond (none || many) (Err BadLines) (Ok tt)) asked ≤ most_lines
     go true many e = omega arith
     go false true e = omega arith
     go false false e = ltb-false 64 asked e
@@ -79,10 +76,10 @@ module _ (asked : ℕ) (given : List Record) where
 
   -- a refused event leaves the run as it was
   pub refused : (r : Record) {x : Refusal} → RefusedBy (window_of asked) (taken_from asked given) r x →
-      give_of (run_from asked given) r ≡ record { answer = Refused x; run = run_from asked given }
+      give_of (run_from asked given) r ≡ record { answer = Err x; run = run_from asked given }
   refused r {x} k = go (answered (window_of asked) (taken_from asked given) (run_from asked given) r viewed)
     where
-      go : Answered (window_of asked) (taken_from asked given) (run_from asked given) r → give_of (run_from asked given) r ≡ record { answer = Refused x; run = run_from asked given }
+      go : Answered (window_of asked) (taken_from asked given) (run_from asked given) r → give_of (run_from asked given) r ≡ record { answer = Err x; run = run_from asked given }
       go (Answered.refused {x = y} a g) =
           let number : x ≡ y = cc (answer_refused (window_of asked) (taken_from asked given) r k) in
           rw number g
@@ -90,11 +87,11 @@ module _ (asked : ℕ) (given : List Record) where
 
   -- an accepted one gets the finding of the history
   pub taken : (r : Record) → Accepted (window_of asked) (taken_from asked given) r →
-      (give_of (run_from asked given) r).answer ≡ Found (finding_by (of_history (window_of asked) (taken_from asked given)) r.event)
+      (give_of (run_from asked given) r).answer ≡ Ok (finding_by (of_history (window_of asked) (taken_from asked given)) r.event)
   taken r k = go (answered (window_of asked) (taken_from asked given) (run_from asked given) r viewed)
     where
       go : Answered (window_of asked) (taken_from asked given) (run_from asked given) r →
-          (give_of (run_from asked given) r).answer ≡ Found (finding_by (of_history (window_of asked) (taken_from asked given)) r.event)
+          (give_of (run_from asked given) r).answer ≡ Ok (finding_by (of_history (window_of asked) (taken_from asked given)) r.event)
       go (Answered.refused a g) = let z : ◌≡◌ {A = ℕ} 0 1 = cc (answer_found (window_of asked) (taken_from asked given) r k) in absurd (omega arith)
       go (Answered.found t a g) = rw g (sym a ∙ answer_found (window_of asked) (taken_from asked given) r k)
 
@@ -102,16 +99,16 @@ module _ (asked : ℕ) (given : List Record) where
   lines_viewed : (of_run (run_from asked given)).lines ≡ window_of asked
   lines_viewed = ap (λ (v : View). v.lines) viewed
 
-  pub byte_refused_lem : (byte : ℕ) → window_bytes (window_of asked) ≤ byte → ask_of (run_from asked given) byte ≡ AskRefused PastWindow
+  pub byte_refused_lem : (byte : ℕ) → window_bytes (window_of asked) ≤ byte → ask_of (run_from asked given) byte ≡ Err PastWindow
   byte_refused_lem byte k = rw (lines_viewed, lt-ltb (window_bytes (window_of asked)) (byte + 1) (omega arith))
 
-  pub byte_known : (byte : ℕ) → byte < window_bytes (window_of asked) → ask_of (run_from asked given) byte ≡ Known (named_of (taken_from asked given) byte)
+  pub byte_known : (byte : ℕ) → byte < window_bytes (window_of asked) → ask_of (run_from asked given) byte ≡ Ok (named_of (taken_from asked given) byte)
   byte_known byte k =
-      rw (lines_viewed, le-ltb (window_bytes (window_of asked)) (byte + 1) (omega arith)) (ap Known (same_named tracked byte))
+      rw (lines_viewed, le-ltb (window_bytes (window_of asked)) (byte + 1) (omega arith)) (ap Ok (same_named tracked byte))
 
   -- the totals at closing
   pub closing_totals : let h = taken_from asked given in depth h ≡ 0 →
-      close_of (run_from asked given) ≡ Totals (length h) (epoch_at h (length h)) (reported (answers_from asked given))
+      close_of (run_from asked given) ≡ totals (length h) (epoch_at h (length h)) (reported (answers_from asked given))
   closing_totals d =
       let t = tracked in
       rw (t.nesting, d, t.events, t.epoch, findings_counted (window_of asked) (window_fits asked) given, same)

@@ -1,4 +1,5 @@
 -- Records that are all taken: their events are the accepted ones, and each finding's bytes stand at its event's place.
+use Rattle.std.specs.Prelude.{Ok}
 use mathlib.Core.Path.{◌≡◌, refl, ap, ◌∙◌}
 use mathlib.Core.List.{List, [], ◌∷◌, ◌++◌, map}
 use Prim.Native.Nat.{ℕ, suc, ◌+◌, ◌*◌}
@@ -7,8 +8,7 @@ use lib.ListN.{length, take, drop}
 use lib.Seq.{drop-append-add}
 use Rattle.event.specs.declared.Record.{Record}
 use Rattle.event.specs.declared.Finding.{Finding}
-use Rattle.event.specs.declared.Parsed.{Parsed}
-use Rattle.event.specs.declared.Parsed.TheVariants.{Read}
+use Rattle.event.specs.Answers.{Parsed}
 use Rattle.codec.specs.Codec.{finding_bytes, finding_size}
 use Rattle.history.specs.History.{History}
 use Rattle.history.specs.View.{of_history}
@@ -21,10 +21,10 @@ use Rattle.claims.proofs.Records.{Accepts}
 
 -- records that are all taken are events
 pub accepts_events : {lines : ℕ} {h : History} {records : List Parsed} {all : History} →
-    Accepts lines h records all → records ≡ map Read (events_of records)
+    Accepts lines h records all → records ≡ map Ok (events_of records)
 unfolding events_of
 accepts_events Accepts.done = refl
-accepts_events (Accepts.takes {r = r} k rest) = ap (λ (l : List Parsed). Read r ∷ l) (accepts_events rest)
+accepts_events (Accepts.takes {r = r} k rest) = ap (λ (l : List Parsed). Ok r ∷ l) (accepts_events rest)
 
 -- and these are the accepted ones
 pub accepts_accepted : {lines : ℕ} {h : History} {records : List Parsed} {all : History} →
@@ -48,7 +48,7 @@ pub record Placed (lines : ℕ) (h : History) (before rest : List Record) (r : R
       finding_bytes (finding_by (of_history lines (accepted lines h before)) r.event) r.site
 
 pub placed : {lines : ℕ} {h all : History} (before rest : List Record) (r : Record) (after : List ℕ) →
-    Accepts lines h (map Read (before ++ r ∷ rest)) all → Placed lines h before rest r after
+    Accepts lines h (map Ok (before ++ r ∷ rest)) all → Placed lines h before rest r after
 unfolding accepted answers findings_bytes
 placed {lines} {h} [] rest r after (Accepts.takes k more) = record { takes = k; bytes = rw (answer_found lines h r k) refl }
 placed {lines} {h} (b ∷ before) rest r after (Accepts.takes k more) =

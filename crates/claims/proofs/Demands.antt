@@ -1,4 +1,5 @@
 -- The demands hold.
+use Rattle.std.specs.Prelude.{Err}
 use mathlib.Core.Path.{◌≡◌, refl, sym, ap, ◌∙◌}
 use mathlib.Core.Logic.{◌≢◌, ◌⊎◌, inl, inr}
 use mathlib.Core.List.{List, [], map}
@@ -26,7 +27,6 @@ use Rattle.history.proofs.Exactly.{claimed as claim-of, persisted_holds, ordered
 use Rattle.history.proofs.Small.{small_runs_lem}
 use Rattle.events.specs.declared.Given.{Given}
 use Rattle.events.specs.Give.{give_of}
-use Rattle.engine.specs.declared.Closing.TheVariants.{Refused as CloseRefused}
 use Rattle.engine.specs.Call.{empty_run, fresh_of, close_of}
 use Rattle.engine.specs.Reply.{window_reply, given_reply, asked_reply, closing_reply}
 use Rattle.exposure.specs.Exposure.{exposure_reply}
@@ -61,7 +61,7 @@ window_taken_lem asked low high = rw (ne_eqb asked 0 (λ z. omega (arith, low, z
 
 module _ (asked : ℕ) (given : List Record) where
   -- a closing
-  closing_refused_lem : depth (taken_from asked given) ≢ 0 → close_of (run_from asked given) ≡ CloseRefused TransactionOpen
+  closing_refused_lem : depth (taken_from asked given) ≢ 0 → close_of (run_from asked given) ≡ Err TransactionOpen
   closing_refused_lem d = rw ((tracked asked given).nesting, ne_eqb (depth (taken_from asked given)) 0 d)
 
   -- the claim of an accepted event's finding

@@ -20,7 +20,7 @@ use Rattle.history.specs.Given.{window_of}
 use Rattle.history.proofs.Count.{count_few, count_less}
 use Rattle.history.proofs.Interval.{closing_fence_lem, interval_none, interval_open, interval_closed, named_interval}
 use Rattle.history.proofs.Meaning.Accepted.{Taken, accepted_taken, taken_events}
-use Rattle.engine.specs.declared.Asked.{Asked}
+use Rattle.engine.specs.Answers.{Asked}
 use Rattle.engine.specs.Reply.{asked_reply}
 use Rattle.engine.proofs.ByEntries.{same_interval}
 use Rattle.engine.proofs.ClosingFence.{closing_within, closing_forced}

@@ -1,4 +1,5 @@
 -- The findings of an accepted trace are bytes: every number in them has 16 bits.
+use Rattle.std.specs.Prelude.{Ok, Err}
 use mathlib.Core.Path.{◌≡◌, refl, sym, subst}
 use mathlib.Core.Bool.{Bool, true, false, cond, ◌&&◌, ◌||◌}
 use mathlib.Core.Option.{Option, none, some}
@@ -16,11 +17,7 @@ use Rattle.event.specs.declared.Finding.{Finding}
 use Rattle.event.specs.declared.Finding.TheVariants.{None, Holds, Lost, OutOfOrder, Unlogged, Clean, WrittenTwice, LoggedTwice, Empty}
 use Rattle.event.specs.declared.Record.{Record}
 use Rattle.event.specs.declared.Refusal.TheVariants.{UnknownKind, FieldSet}
-use Rattle.event.specs.declared.Check.{Check}
-use Rattle.event.specs.declared.Check.TheVariants.{Passed, Refused as Breaks}
-use Rattle.event.specs.declared.Answer.TheVariants.{Found}
-use Rattle.event.specs.declared.Parsed.{Parsed}
-use Rattle.event.specs.declared.Parsed.TheVariants.{Read, Refused as Unread}
+use Rattle.event.specs.Answers.{Check, Parsed}
 use Rattle.event.specs.Numbers.{fields_of}
 use Rattle.event.proofs.Bools.{or_neither}
 use Rattle.window.specs.Window.{window_bytes, line_of, line_start}
@@ -34,7 +31,6 @@ use Rattle.history.specs.Given.{answer_for, answer_of, answers}
 use Rattle.history.proofs.Interval.{last_store_within}
 use Rattle.history.proofs.Given.{Checked, checked}
 use Rattle.trailer.specs.Trailer.{trailer_size, trailer_of}
-use Rattle.trace.specs.declared.TraceCheck.TheVariants.{Passed as Accepted}
 use Rattle.trace.specs.Records.{record_part, records_of, events_of, events_in}
 use Rattle.verdict.specs.Verdict.{findings_bytes, trace_check, answers_of}
 use Rattle.listing.proofs.Area.{AllFound, each_found, events_few, lines_few}
@@ -207,13 +203,13 @@ sites (suc count) s all = go (bad_kind front) (field_set front) (sites count (dr
     rest = records_of count (drop record_size s)
 
     go : (b c : Bool) → AllSites (events_of rest) →
-        AllSites (events_of (cond b (Unread UnknownKind) (cond c (Unread FieldSet) (Read (record_of front))) ∷ rest))
+        AllSites (events_of (cond b (Err UnknownKind) (cond c (Err FieldSet) (Ok (record_of front))) ∷ rest))
     go true c others = others
     go false true others = others
     go false false others = AllSites.more {r = record_of front} (omega (arith, bytes_take record_size s all 10, bytes_take record_size s all (10 + 1))) others
 
 -- a finding that an event got is the one that the history before it gives, and the event's ranges lie in the window
-taken_finding : (lines : ℕ) (h : History) (r : Record) {f : Finding} → answer_of lines h r ≡ Found f →
+taken_finding : (lines : ℕ) (h : History) (r : Record) {f : Finding} → answer_of lines h r ≡ Ok f →
     (f ≡ finding_by (of_history lines h) r.event) × (any_range (is_past lines) (ranges_of r.event) ≡ false)
 unfolding answer_of refusal_by
 taken_finding lines h r {f} e = go (first_broken limits) (checked limits) e
@@ -224,10 +220,10 @@ taken_finding lines h r {f} e = go (first_broken limits) (checked limits) e
     inside : NoneBroken limits → any_range (is_past lines) (ranges_of r.event) ≡ false
     inside (NoneBroken.cons a b) = a
 
-    go : (c : Check) → Checked limits c → answer_for c (finding_by (of_history lines h) r.event) ≡ Found f →
+    go : (c : Check) → Checked limits c → answer_for c (finding_by (of_history lines h) r.event) ≡ Ok f →
         (f ≡ finding_by (of_history lines h) r.event) × (any_range (is_past lines) (ranges_of r.event) ≡ false)
-    go Passed (Checked.none k) e = (cc, inside k)
-    go (Breaks x) (Checked.first k) e = let z : ◌≡◌ {A = ℕ} 0 1 = cc in absurd (omega arith)
+    go (Ok tt) (Checked.none k) e = (cc, inside k)
+    go (Err x) (Checked.first k) e = let z : ◌≡◌ {A = ℕ} 0 1 = cc in absurd (omega arith)
 
 all_bytes : {lines : ℕ} {h : History} {records : List Parsed} → window_bytes lines ≤ 65535 → AllFound lines h records → AllSites (events_of records) →
     length h + length (events_of records) ≤ 65535 → let given = events_of records in Bytes (findings_bytes given (answers lines h given))
@@ -245,7 +241,7 @@ all_bytes {lines} {h} window (AllFound.found {r = r} {f = f} {rest = others} e r
     (all_bytes window rest known (omega arith)))
 
 -- so it is with an accepted trace that is bytes
-pub findings_bytes_lem : (trace area : List ℕ) → trace_check trace area ≡ Accepted → Bytes trace → Bytes (findings_bytes (events_in trace) (answers_of trace))
+pub findings_bytes_lem : (trace area : List ℕ) → trace_check trace area ≡ (Ok tt) → Bytes trace → Bytes (findings_bytes (events_in trace) (answers_of trace))
 findings_bytes_lem trace area passes all =
     let t = trailer_of trace in
     let part = bytes_take (length trace - trailer_size - t.offset) (drop t.offset trace) (bytes_drop t.offset trace all) in

@@ -27,7 +27,7 @@ use Rattle.tables.specs.Table.{entry}
 use Rattle.tables.specs.View.{since_store, of_run}
 use Rattle.tables.proofs.SinceStore.{open_by, open_at}
 use Rattle.events.proofs.Bare.{give_bare}
-use Rattle.engine.specs.declared.Asked.{Asked}
+use Rattle.engine.specs.Answers.{Asked}
 use Rattle.engine.specs.Call.{ask_of}
 use Rattle.engine.specs.Reply.{asked_reply}
 use Rattle.engine.proofs.Link.{same_closing}

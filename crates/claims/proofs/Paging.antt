@@ -1,4 +1,5 @@
 -- Which findings areas are refused when they are laid out, by which number and at which position.
+use Rattle.std.specs.Prelude.{Ok}
 use mathlib.Core.Path.{◌≡◌, refl, ap, ◌∙◌, subst}
 use mathlib.Core.Logic.{◌⊎◌, inl, inr}
 use mathlib.Core.List.{List, [], ◌∷◌, ◌++◌}
@@ -12,8 +13,7 @@ use Rattle.event.specs.Reply.{Reply}
 use Rattle.history.specs.Refused.{First, NoneBroken}
 use Rattle.history.proofs.Given.{first_broken_lem, none_broken}
 use Rattle.page_layout.specs.Pages.{findings_in, pages_of}
-use Rattle.pages.specs.declared.Paged.{Paged}
-use Rattle.pages.specs.declared.Paged.TheVariants.{Refused, Written}
+use Rattle.pages.specs.Answers.{Paged, refused_finding}
 use Rattle.pages.specs.Limits.{whole_limits, damage_limits, room_limits}
 use Rattle.pages.specs.Paged.{unless_damaged, in_room, paged_of, paged_reply, page_area_after}
 use Rattle.claims.specs.Paging.{NoneDamaged, DamagedFirst, NotPaged}
@@ -33,15 +33,15 @@ module _ (findings : List ℕ) where
   -- or one is the first
   damaged : (from count before : ℕ) (rest : Paged) {x : Refusal} → from ≤ before → before < from + count →
       ((i : ℕ) → from ≤ i → i < before → NoneBroken (damage_limits i findings)) → First (damage_limits before findings) x →
-      unless_damaged from count findings rest ≡ Refused x (suc before)
+      unless_damaged from count findings rest ≡ refused_finding x (suc before)
   unfolding unless_damaged
   damaged from zero before rest a b others k = absurd (omega arith)
   damaged from (suc count) before rest {x} a b others k = go (dec_eq from before) (damaged (suc from) count before rest)
     where
       go : Dec (from ≡ before) →
           (suc from ≤ before → before < suc from + count → ((i : ℕ) → suc from ≤ i → i < before → NoneBroken (damage_limits i findings)) →
-          First (damage_limits before findings) x → unless_damaged (suc from) count findings rest ≡ Refused x (suc before)) →
-          unless_damaged from (suc count) findings rest ≡ Refused x (suc before)
+          First (damage_limits before findings) x → unless_damaged (suc from) count findings rest ≡ refused_finding x (suc before)) →
+          unless_damaged from (suc count) findings rest ≡ refused_finding x (suc before)
       go (yes e) more = rw (e, first_broken_lem k)
       go (no e) more =
           rw (none_broken (others from (omega arith) (omega (arith, e))))
@@ -74,7 +74,7 @@ module _ (findings : List ℕ) where
 
 module _ (findings area : List ℕ) where
   -- a refusal leaves the page area as it was
-  not_paged : {x : Refusal} {position : ℕ} → paged_of findings (length area) ≡ Refused x position → NotPaged findings area (number_of x) position
+  not_paged : {x : Refusal} {position : ℕ} → paged_of findings (length area) ≡ refused_finding x position → NotPaged findings area (number_of x) position
   unfolding page_area_after
   not_paged e = (ap paged_reply e, rw e)
 
@@ -108,7 +108,7 @@ module _ (findings area : List ℕ) where
           (page_area_after findings area ≡ pages_of findings ++ drop (length (pages_of findings)) area)
       unfolding page_area_after
       pages_taken_lem k =
-          let answer : paged_of findings (length area) ≡ Written (length (pages_of findings)) = after_findings ∙ (rw (none_broken k)) in
+          let answer : paged_of findings (length area) ≡ Ok (length (pages_of findings)) = after_findings ∙ (rw (none_broken k)) in
           (ap paged_reply answer, rw answer)
 
 pub damage_decided_lem : (findings : List ℕ) → ((x : Refusal) × (before : ℕ) × DamagedFirst findings x before) ⊎ NoneDamaged (findings_in findings) findings

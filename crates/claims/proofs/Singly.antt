@@ -1,4 +1,5 @@
 -- An accepted trace: its findings area and its totals are those of its events given singly.
+use Rattle.std.specs.Prelude.{Ok, Err}
 use mathlib.Core.Path.{◌≡◌, sym, ap, ◌∙◌, subst}
 use mathlib.Core.Bool.{Bool, cond}
 use mathlib.Core.Logic.{inl, inr}
@@ -11,11 +12,8 @@ use lib.Seq.{drop_at}
 use borrow.Author.Tests.{ltb-false}
 use Rattle.event.specs.declared.Record.{Record}
 use Rattle.event.specs.declared.Refusal.TheVariants.{BadLines}
-use Rattle.event.specs.declared.Check.{Check}
-use Rattle.event.specs.declared.Check.TheVariants.{Passed, Refused as Breaks}
+use Rattle.event.specs.Answers.{Check, totals}
 use Rattle.event.specs.declared.Finding.{Finding}
-use Rattle.event.specs.declared.Answer.TheVariants.{Found}
-use Rattle.event.specs.declared.Parsed.TheVariants.{Read}
 use Rattle.event.specs.Reply.{Reply, check_reply, finding_values, answer_reply}
 use Rattle.codec.specs.Codec.{finding_bytes, finding_size}
 use Rattle.window.specs.Window.{lines_check}
@@ -27,10 +25,8 @@ use Rattle.history.specs.Refused.{NoneBroken}
 use Rattle.history.specs.Found.{finding_by}
 use Rattle.history.specs.Given.{window_for, window_of, Accepted, accepted, answers, reported}
 use Rattle.events.specs.Give.{give_of}
-use Rattle.engine.specs.declared.Closing.TheVariants.{Totals}
 use Rattle.engine.specs.Call.{close_of}
 use Rattle.engine.specs.Reply.{given_reply, closing_reply}
-use Rattle.trace.specs.declared.TraceCheck.TheVariants.{Passed as AllPass}
 use Rattle.trailer.specs.Trailer.{trailer_of}
 use Rattle.trace.specs.Records.{record_part, lines_in, records_in, events_in}
 use Rattle.trailer.proofs.Lines.{window_lines}
@@ -45,27 +41,27 @@ use Rattle.claims.proofs.Records.{Accepts, takes_accepts}
 use Rattle.claims.proofs.Traces.{Decided, records_decided_lem, trace_refused_lem, record_refused_lem, trace_open_lem, records_pass, trace_passed}
 use Rattle.claims.proofs.Area.{accepts_events, accepts_accepted, placed}
 
-module _ (lines : ℕ) (passed : lines_check lines ≡ Passed) where
+module _ (lines : ℕ) (passed : lines_check lines ≡ (Ok tt)) where
   -- a window that is not refused has the lines asked for
   pub asked_lines : window_of lines ≡ lines
   asked_lines = ap (λ (c : Check). window_for c lines) passed
 
   -- so the accepted events in that many lines give the finding of an event and the totals
   singly_found : (before : List Record) (r : Record) → Accepted lines (accepted lines [] before) r →
-      (give_of (run_from lines before) r).answer ≡ Found (finding_by (of_history lines (accepted lines [] before)) r.event)
+      (give_of (run_from lines before) r).answer ≡ Ok (finding_by (of_history lines (accepted lines [] before)) r.event)
   singly_found before r =
       subst
       (λ (w : ℕ). Accepted w (accepted w [] before) r →
-      (give_of (run_from lines before) r).answer ≡ Found (finding_by (of_history w (accepted w [] before)) r.event))
+      (give_of (run_from lines before) r).answer ≡ Ok (finding_by (of_history w (accepted w [] before)) r.event))
       asked_lines
       (taken lines before r)
 
   singly_totals : (given : List Record) → let h = accepted lines [] given in depth h ≡ 0 →
-      close_of (run_from lines given) ≡ Totals (length h) (epoch_at h (length h)) (reported (answers lines [] given))
+      close_of (run_from lines given) ≡ totals (length h) (epoch_at h (length h)) (reported (answers lines [] given))
   singly_totals given =
       subst
       (λ (w : ℕ). let h = accepted w [] given in depth h ≡ 0 →
-      close_of (run_from lines given) ≡ Totals (length h) (epoch_at h (length h)) (reported (answers w [] given)))
+      close_of (run_from lines given) ≡ totals (length h) (epoch_at h (length h)) (reported (answers w [] given)))
       asked_lines
       (λ d. closing_totals lines given d ∙ (rw (same lines given)))
 
@@ -91,9 +87,9 @@ all_taken trace area totals e = go (limited (trace_limits trace area)) (records_
     go (inr k) (inr (h, t)) = close h k t (dec_eq (depth h) 0)
 
 -- limit 4 is not broken: the window is not refused
-pub window_passed : (trace area : List ℕ) → NoneBroken (trace_limits trace area) → lines_check (lines_in trace) ≡ Passed
+pub window_passed : (trace area : List ℕ) → NoneBroken (trace_limits trace area) → lines_check (lines_in trace) ≡ Ok tt
 window_passed trace area (NoneBroken.cons a (NoneBroken.cons b (NoneBroken.cons c (NoneBroken.cons d e)))) =
-    ap (λ (t : Bool). cond t (Breaks BadLines) Passed) (window_lines (trailer_of trace) d)
+    ap (λ (t : Bool). cond t (Err BadLines) (Ok tt)) (window_lines (trailer_of trace) d)
 
 -- limit 14 is not broken: the area is large enough
 area_fits : (trace area : List ℕ) → NoneBroken (trace_limits trace area) → area_size trace ≤ length area
@@ -102,7 +98,7 @@ area_fits trace area (NoneBroken.cons a (NoneBroken.cons b (NoneBroken.cons c (N
 
 module _ (trace area : List ℕ) (t : AllTaken trace area) where
   -- nothing refuses the trace
-  passes : trace_check trace area ≡ AllPass
+  passes : trace_check trace area ≡ Ok tt
   passes = trace_passed trace area t.limits t.takes t.closed
 
   -- its records are read and accepted
@@ -130,7 +126,7 @@ module _ (trace area : List ℕ) (t : AllTaken trace area) where
       (f : Finding) × (given_reply (give_of (run_from (lines_in trace) before) r) ≡ Reply.values (finding_values f)) ×
       (take finding_size (drop (finding_size * length before) (area_after trace area)) ≡ finding_bytes f r.site)
   area_finding before rest r e =
-      let events : records_in trace ≡ map Read (before ++ r ∷ rest) = accepts_events accepts ∙ ap (map Read) e in
+      let events : records_in trace ≡ map Ok (before ++ r ∷ rest) = accepts_events accepts ∙ ap (map Ok) e in
       let p = placed before rest r (drop (area_size trace) area) (rw events at accepts) in (
         finding_by (of_history (lines_in trace) (accepted (lines_in trace) [] before)) r.event,
         ap answer_reply (singly_found (lines_in trace) (window_passed trace area t.limits) before r p.takes),

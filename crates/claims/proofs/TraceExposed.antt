@@ -1,10 +1,11 @@
 -- The mean exposure of a trace: refused as the judge refuses the trace, 14 aside, and then what its accepted events say.
+use Rattle.std.specs.Prelude.{Ok, Err}
 use mathlib.Core.Path.{◌≡◌, refl, sym, ap, ◌∙◌, subst}
 use mathlib.Core.Logic.{◌≢◌, ◌⊎◌, inl, inr}
 use mathlib.Core.List.{List, []}
 use Prim.Native.Nat.{ℕ, ◌<◌}
 use borrow.Author.Tests.{eq-eqb, ne_eqb}
-use Rattle.event.specs.declared.Check.{Check}
+use Rattle.event.specs.Answers.{Check, refused_at}
 use Rattle.event.specs.declared.Interval.TheVariants.{Closed}
 use Rattle.event.specs.declared.Refusal.{Refusal}
 use Rattle.event.specs.declared.Refusal.TheVariants.{AreaTooShort, TransactionOpen}
@@ -17,12 +18,10 @@ use Rattle.history.specs.Transaction.{depth}
 use Rattle.history.specs.Refused.{First, NoneBroken}
 use Rattle.history.specs.Given.{accepted}
 use Rattle.history.proofs.Given.{first_broken_lem, none_broken}
-use Rattle.exposure.specs.declared.Exposed.{Exposed}
-use Rattle.exposure.specs.declared.Exposed.TheVariants.{Refused as NoMean, Mean}
+use Rattle.exposure.specs.Answers.{Exposed, mean}
 use Rattle.exposure.specs.Exposure.{exposure_in, exposure_of, exposure_reply}
 use Rattle.exposure.proofs.Meaning.{mean_exactly, none_closed, some_closed}
-use Rattle.trace.specs.declared.TraceCheck.{TraceCheck}
-use Rattle.trace.specs.declared.TraceCheck.TheVariants.{Passed, Refused as RefusedAt}
+use Rattle.trace.specs.Answers.{TraceCheck}
 use Rattle.trailer.specs.Trailer.{file_limits}
 use Rattle.trace.specs.Records.{lines_in, records_in, events_in}
 use Rattle.trace.specs.Checked.{unless_broken, check_all}
@@ -42,8 +41,8 @@ use Rattle.claims.proofs.Exposed.{same_exposure, exposed_mean, asked_sums, close
 
 -- the answer without a record's number is the run's
 same_reply : (e : Exposed) → trace_exposure_reply (without_record e) ≡ exposure_reply e
-same_reply (NoMean x) = refl
-same_reply (Mean quotient remainder divisor) = refl
+same_reply (Err x) = refl
+same_reply (Ok m) = refl
 
 module _ (trace : List ℕ) where
   -- the mean exposure by the trace's accepted events
@@ -51,12 +50,12 @@ module _ (trace : List ℕ) where
   exposed = exposure_in (lines_in trace) (interval_of (history_of trace))
 
   -- what refuses the file or its records refuses the answer
-  refused : {x : Refusal} {n : ℕ} → file_check trace ≡ RefusedAt x n → trace_exposure_reply (trace_exposure_of trace) ≡ Reply.refused (number_of x) n
+  refused : {x : Refusal} {n : ℕ} → file_check trace ≡ refused_at x n → trace_exposure_reply (trace_exposure_of trace) ≡ Reply.refused (number_of x) n
   unfolding trace_exposure_of
   refused e = ap (λ (c : TraceCheck). trace_exposure_reply (unless_refused c exposed)) e
 
   -- where nothing does, the accepted events decide
-  passed : file_check trace ≡ Passed → trace_exposure_reply (trace_exposure_of trace) ≡ exposure_reply exposed
+  passed : file_check trace ≡ (Ok tt) → trace_exposure_reply (trace_exposure_of trace) ≡ exposure_reply exposed
   unfolding trace_exposure_of
   passed e = ap (λ (c : TraceCheck). trace_exposure_reply (unless_refused c exposed)) e ∙ same_reply exposed
 
@@ -91,26 +90,26 @@ module _ (trace : List ℕ) where
 
   module _ (area : List ℕ) where
     -- an answer that is refused as the file and its records are is refused as the judge refuses, 14 aside
-    module _ (answer : Reply) (stopped : (x : Refusal) (n : ℕ) → file_check trace ≡ RefusedAt x n → answer ≡ Reply.refused (number_of x) n) where
+    module _ (answer : Reply) (stopped : (x : Refusal) (n : ℕ) → file_check trace ≡ refused_at x n → answer ≡ Reply.refused (number_of x) n) where
       same_refusal : {number at : ℕ} (c : TraceCheck) → file_check trace ≡ c → trace_check trace area ≡ c →
           verdict_reply (verdict_of trace area) ≡ Reply.refused number at → answer ≡ Reply.refused number at
-      same_refusal (RefusedAt x n) f t e = stopped x n f ∙ sym (ap verdict_reply (refuses trace area t)) ∙ e
-      same_refusal Passed f t e = absurd (not_refused (ap verdict_reply (totalled trace area t)) e)
+      same_refusal (Err r) f t e = stopped r.refusal r.at f ∙ sym (ap verdict_reply (refuses trace area t)) ∙ e
+      same_refusal (Ok tt) f t e = absurd (not_refused (ap verdict_reply (totalled trace area t)) e)
 
       pub judge_refuses : (number at : ℕ) → verdict_reply (verdict_of trace area) ≡ Reply.refused number at → number ≢ 14 → answer ≡ Reply.refused number at
       judge_refuses number at e other = go (area_aside trace area)
         where
-          go : (trace_check trace area ≡ file_check trace) ⊎ (trace_check trace area ≡ RefusedAt AreaTooShort 0) → answer ≡ Reply.refused number at
+          go : (trace_check trace area ≡ file_check trace) ⊎ (trace_check trace area ≡ refused_at AreaTooShort 0) → answer ≡ Reply.refused number at
           go (inl same) = same_refusal (file_check trace) refl same e
           go (inr short) = let r = ap verdict_reply (refuses trace area short) in let n : number ≡ 14 = cc in absurd (other n)
 
     -- an accepted trace
-    pub accepted_check : (totals : List ℕ) → verdict_reply (verdict_of trace area) ≡ Reply.values totals → file_check trace ≡ Passed
+    pub accepted_check : (totals : List ℕ) → verdict_reply (verdict_of trace area) ≡ Reply.values totals → file_check trace ≡ Ok tt
     accepted_check totals e = go (area_aside trace area) (file_check trace) refl
       where
-        go : (trace_check trace area ≡ file_check trace) ⊎ (trace_check trace area ≡ RefusedAt AreaTooShort 0) → (c : TraceCheck) → file_check trace ≡ c → file_check trace ≡ Passed
-        go (inl same) Passed f = f
-        go (inl same) (RefusedAt x n) f = absurd (not_refused e (ap verdict_reply (refuses trace area (same ∙ f))))
+        go : (trace_check trace area ≡ file_check trace) ⊎ (trace_check trace area ≡ refused_at AreaTooShort 0) → (c : TraceCheck) → file_check trace ≡ c → file_check trace ≡ Ok tt
+        go (inl same) (Ok tt) f = f
+        go (inl same) (Err r) f = absurd (not_refused e (ap verdict_reply (refuses trace area (same ∙ f))))
         go (inr short) c f = absurd (not_refused e (ap verdict_reply (refuses trace area short)))
 
     pub judge_accepts : (totals : List ℕ) → verdict_reply (verdict_of trace area) ≡ Reply.values totals →

@@ -1,4 +1,5 @@
 -- The persist interval of a byte after a trace: refused as the judge refuses the trace, 14 aside, and then what the run after its events answers.
+use Rattle.std.specs.Prelude.{Ok, Err}
 use mathlib.Core.Path.{◌≡◌, ap, ap₂, sym, ◌∙◌, subst}
 use mathlib.Core.Bool.{cond}
 use mathlib.Core.List.{List, []}
@@ -13,12 +14,10 @@ use Rattle.ranges.specs.Ranges.{is_past}
 use Rattle.history.specs.View.{View}
 use Rattle.history.specs.Refused.{first_broken}
 use Rattle.history.specs.Given.{window_of, accepted}
-use Rattle.engine.specs.declared.Asked.TheVariants.{Refused as NotAsked, Known as RunKnows}
 use Rattle.engine.specs.Call.{ask_of}
 use Rattle.engine.proofs.ByEntries.{same_named}
 use Rattle.trailer.specs.Trailer.{file_limits}
-use Rattle.trace.specs.declared.TraceCheck.{TraceCheck}
-use Rattle.trace.specs.declared.TraceCheck.TheVariants.{Refused as RefusedAt}
+use Rattle.trace.specs.Answers.{TraceCheck}
 use Rattle.trace.specs.Records.{lines_in, records_in, events_in}
 use Rattle.trace.specs.Checked.{check_all}
 use Rattle.verdict.specs.Verdict.{file_check, history_of, verdict_of, verdict_reply}
@@ -29,18 +28,19 @@ use Rattle.claims.specs.After.{run_from, taken_from}
 use Rattle.claims.proofs.Answers.{tracked, viewed}
 use Rattle.claims.proofs.Singly.{asked_lines, all_taken, window_passed}
 use Rattle.claims.proofs.TraceExposed.{accepted_check}
+use Rattle.event.specs.Answers.{refused_at}
 
 -- a byte asked after events given one after another
 asked_after_lem : (asked : ℕ) (given : List Record) (byte : ℕ) → ask_of (run_from asked given) byte ≡ asked_after (window_of asked) (taken_from asked given) byte
 asked_after_lem asked given byte =
     ap₂
-    (λ (v : View) (i : NamedInterval). cond (is_past v.lines (record { address = byte; length = 1 })) (NotAsked PastWindow) (RunKnows i))
+    (λ (v : View) (i : NamedInterval). cond (is_past v.lines (record { address = byte; length = 1 })) (Err PastWindow) (Ok i))
     (viewed asked given)
     (same_named (tracked asked given) byte)
 
 module _ (trace : List ℕ) (byte : ℕ) where
   -- what refuses the file or its records refuses the answer
-  pub stopped : {x : Refusal} {n : ℕ} → file_check trace ≡ RefusedAt x n → trace_interval_reply (trace_interval_of trace byte) ≡ Reply.refused (number_of x) n
+  pub stopped : {x : Refusal} {n : ℕ} → file_check trace ≡ refused_at x n → trace_interval_reply (trace_interval_of trace byte) ≡ Reply.refused (number_of x) n
   unfolding trace_interval_of
   stopped e =
       ap

@@ -1,4 +1,5 @@
 -- The findings that the judge leaves of an accepted trace, laid out on pages: they are not damaged, and the pages show the listing's rows.
+use Rattle.std.specs.Prelude.{Ok, Err}
 use mathlib.Core.Path.{◌≡◌, refl, sym, ap, ◌∙◌, subst, subst₂}
 use mathlib.Core.Bool.{false, not}
 use mathlib.Core.List.{List, [], ◌∷◌, ◌++◌, map, append_assoc, append-nil}
@@ -9,15 +10,14 @@ use lib.ListN.{length, take, drop, get_or, length-append}
 use lib.Seq.{take_at}
 use borrow.Author.Tests.{le-ltb, lt-ltb, eq-eqb}
 use Rattle.event.specs.declared.Finding.{Finding}
-use Rattle.event.specs.declared.Parsed.{Parsed}
+use Rattle.event.specs.Answers.{Parsed, refused_at}
 use Rattle.event.specs.Numbers.{fields_of}
 use Rattle.event.specs.Reply.{Reply}
 use Rattle.codec.specs.Codec.{finding_size, finding_bytes}
 use Rattle.history.specs.History.{History}
 use Rattle.history.specs.Refused.{First, NoneBroken, most_events}
 use Rattle.history.specs.Given.{answers, reported}
-use Rattle.trace.specs.declared.TraceCheck.{TraceCheck}
-use Rattle.trace.specs.declared.TraceCheck.TheVariants.{Passed, Refused as RefusedAt}
+use Rattle.trace.specs.Answers.{TraceCheck}
 use Rattle.trace.specs.Records.{events_of, lines_in, records_in, events_in}
 use Rattle.verdict.specs.Verdict.{area_size, findings_bytes, trace_check, history_of, answers_of, verdict_for, verdict_of, verdict_reply, area_after}
 use Rattle.verdict.proofs.Outcome.{area_holds}
@@ -81,14 +81,14 @@ all_sound {lines} {h} (AllFound.found {r = r} {f = f} {rest = others} found rest
     (all_sound rest (suc before) (bytes ++ one) after size i (omega arith)))
 
 module _ (trace area totals : List ℕ) (accepted : verdict_reply (verdict_of trace area) ≡ Reply.values totals) where
-  passes : trace_check trace area ≡ Passed
+  passes : trace_check trace area ≡ Ok tt
   unfolding verdict_of
   passes = go (trace_check trace area) refl accepted
     where
       go : (c : TraceCheck) → trace_check trace area ≡ c → verdict_reply (verdict_for c (history_of trace) (answers_of trace)) ≡ Reply.values totals →
-          trace_check trace area ≡ Passed
-      go Passed e k = e
-      go (RefusedAt x n) e k = let z : ◌≡◌ {A = ℕ} 0 1 = cc in absurd (omega arith)
+          trace_check trace area ≡ Ok tt
+      go (Ok tt) e k = e
+      go (Err r) e k = let z : ◌≡◌ {A = ℕ} 0 1 = cc in absurd (omega arith)
 
   found : AllFound (lines_in trace) [] (records_in trace)
   found = each_found trace area passes

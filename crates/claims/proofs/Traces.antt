@@ -1,4 +1,5 @@
 -- A trace is refused by the first number that applies, or by none: what the computed check says of its limits and of its records.
+use Rattle.std.specs.Prelude.{Ok}
 use mathlib.Core.Path.{◌≡◌, refl, ap, ◌∙◌}
 use mathlib.Core.Bool.{cond}
 use mathlib.Core.Logic.{◌≢◌, ◌⊎◌, inl, inr}
@@ -9,7 +10,7 @@ use lib.ListN.{take, drop}
 use borrow.Author.Tests.{eq-eqb, ne_eqb}
 use Rattle.event.specs.declared.Refusal.{Refusal}
 use Rattle.event.specs.declared.Refusal.TheVariants.{TransactionOpen}
-use Rattle.event.specs.declared.Check.{Check}
+use Rattle.event.specs.Answers.{Check, refused_at}
 use Rattle.event.specs.Numbers.{number_of}
 use Rattle.event.specs.Reply.{Reply}
 use Rattle.records.specs.Record.{record_size, record_of}
@@ -17,7 +18,6 @@ use Rattle.history.specs.History.{History}
 use Rattle.history.specs.Transaction.{depth}
 use Rattle.history.specs.Refused.{First, NoneBroken}
 use Rattle.history.proofs.Given.{first_broken_lem, none_broken}
-use Rattle.trace.specs.declared.TraceCheck.TheVariants.{Passed, Refused}
 use Rattle.trailer.specs.Trailer.{trailer_of, file_limits, opened_for, opened_of, opened_reply}
 use Rattle.trace.specs.Records.{records_of, lines_in, records_in}
 use Rattle.trace.specs.Checked.{unless_broken, check_from, check_all}
@@ -29,7 +29,7 @@ use Rattle.claims.proofs.Records.{record_checked}
 
 -- the check of the records finds the first that is refused
 pub stops_checked : {lines n count : ℕ} {h : History} {s : List ℕ} {x : Refusal} {m : ℕ} →
-    Stops lines n h count s x m → check_from lines n h (records_of count s) ≡ Refused x m
+    Stops lines n h count s x m → check_from lines n h (records_of count s) ≡ refused_at x m
 unfolding records_of
 stops_checked {lines} {n} {h = h} {s = s} (Stops.here k) = record_checked lines n h (take record_size s) _ ∙ (rw (first_broken_lem k))
 stops_checked {lines} {n} {h = h} {s = s} (Stops.later k rest) =
@@ -37,7 +37,7 @@ stops_checked {lines} {n} {h = h} {s = s} (Stops.later k rest) =
 
 -- where all are taken, it passes unless a transaction is open
 pub takes_checked : {lines count : ℕ} (n : ℕ) {h : History} {s : List ℕ} {all : History} →
-    Takes lines h count s all → check_from lines n h (records_of count s) ≡ cond (eqb (depth all) 0) Passed (Refused TransactionOpen 0)
+    Takes lines h count s all → check_from lines n h (records_of count s) ≡ cond (eqb (depth all) 0) (Ok tt) (refused_at TransactionOpen 0)
 unfolding records_of check_from
 takes_checked n Takes.done = refl
 takes_checked {lines} n {h} {s} (Takes.takes {count = count} k rest) =
@@ -71,7 +71,7 @@ module _ (s : List ℕ) where
 
 module _ (trace area : List ℕ) where
   -- what the check refuses is rejected
-  rejected : {x : Refusal} {n : ℕ} → trace_check trace area ≡ Refused x n → Rejected trace area (number_of x) n
+  rejected : {x : Refusal} {n : ℕ} → trace_check trace area ≡ refused_at x n → Rejected trace area (number_of x) n
   rejected e = (ap verdict_reply (refuses trace area e), area_stays trace area e)
 
   -- a limit on trace and area is broken
@@ -91,10 +91,10 @@ module _ (trace area : List ℕ) where
   trace_open_lem {h} k t d = rejected {x = TransactionOpen} {n = 0} (records_check k ∙ takes_checked 1 t ∙ (rw (ne_eqb (depth h) 0 d)))
 
   -- all records are taken and no transaction is open: the check passes
-  pub records_pass : {h : History} → TakesAll trace h → depth h ≡ 0 → check_all (lines_in trace) (records_in trace) ≡ Passed
+  pub records_pass : {h : History} → TakesAll trace h → depth h ≡ 0 → check_all (lines_in trace) (records_in trace) ≡ Ok tt
   records_pass {h} t d = takes_checked 1 t ∙ (rw (eq-eqb (depth h) 0 d))
 
-  pub trace_passed : {h : History} → NoneBroken (trace_limits trace area) → TakesAll trace h → depth h ≡ 0 → trace_check trace area ≡ Passed
+  pub trace_passed : {h : History} → NoneBroken (trace_limits trace area) → TakesAll trace h → depth h ≡ 0 → trace_check trace area ≡ Ok tt
   trace_passed k t d = records_check k ∙ records_pass t d
 
   -- so no number refuses the trace

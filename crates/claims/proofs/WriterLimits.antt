@@ -1,4 +1,5 @@
 -- A writer's calls, whatever the writer: by the first number that applies, or by none.
+use Rattle.std.specs.Prelude.{Ok, Err}
 use mathlib.Core.Path.{◌≡◌, sym, ap, ◌∙◌}
 use mathlib.Core.List.{List, [], ◌∷◌, ◌++◌}
 use Prim.Native.Nat.{ℕ, ◌+◌}
@@ -7,8 +8,7 @@ use lib.ListN.{length, drop}
 use Rattle.event.specs.declared.Event.{Event}
 use Rattle.event.specs.declared.Record.{Record}
 use Rattle.event.specs.declared.Refusal.{Refusal}
-use Rattle.event.specs.declared.Check.{Check}
-use Rattle.event.specs.declared.Check.TheVariants.{Passed, Refused as Breaks}
+use Rattle.event.specs.Answers.{Check}
 use Rattle.event.specs.Numbers.{number_of}
 use Rattle.event.specs.Reply.{Reply}
 use Rattle.records.specs.Record.{record_of, record_bytes}
@@ -17,7 +17,6 @@ use Rattle.history.proofs.Given.{first_broken_lem, none_broken}
 use Rattle.trailer.specs.Trailer.{trailer_size, trailer_with}
 use Rattle.trace.specs.Checked.{read_limits}
 use Rattle.file.specs.declared.Writer.{Writer}
-use Rattle.file.specs.declared.Started.TheVariants.{Ready}
 use Rattle.file.specs.Limits.{start_limits, write_limits, bytes_limits, close_limits}
 use Rattle.file.specs.Write.{writer_with, records_end, view_of, area_for, started_for, started_of, area_started, written_for, written_of, area_written, bytes_written_of, area_bytes_written, closed_for, closed_of, area_closed}
 use Rattle.file.specs.Reply.{start_reply, written_reply, closed_reply}
@@ -34,7 +33,7 @@ module _ (area preamble : List ℕ) (lines : ℕ) where
   )
 
   pub start_taken_lem : NoneBroken (start_limits (length area) (length preamble) lines) →
-      (started_of area preamble lines ≡ Ready (writer_with lines (length preamble) 0 0)) ×
+      (started_of area preamble lines ≡ Ok (writer_with lines (length preamble) 0 0)) ×
       (area_started area preamble lines ≡ preamble ++ drop (length preamble) area)
   start_taken_lem k = (
     ap (λ (c : Check). started_for c (writer_with lines (length preamble) 0 0)) (none_broken k),
@@ -43,7 +42,7 @@ module _ (area preamble : List ℕ) (lines : ℕ) where
 
 -- an event, by what its check says: a refused one leaves writer and area as they were
 module _ (area : List ℕ) (w : Writer) (e : Event) (bytes : List ℕ) {c : Check} where
-  by_number : {x : Refusal} → c ≡ Breaks x →
+  by_number : {x : Refusal} → c ≡ Err x →
       (written_reply (written_for c w e) ≡ Reply.refused (number_of x) 0) × ((written_for c w e).writer ≡ w) × (area_for c (records_end w) bytes area ≡ area)
   by_number k = (
     ap (λ (d : Check). written_reply (written_for d w e)) k,
@@ -51,7 +50,7 @@ module _ (area : List ℕ) (w : Writer) (e : Event) (bytes : List ℕ) {c : Chec
     ap (λ (d : Check). area_for d (records_end w) bytes area) k,
   )
 
-  by_none : c ≡ Passed → written_reply (written_for c w e) ≡ Reply.values []
+  by_none : c ≡ (Ok tt) → written_reply (written_for c w e) ≡ Reply.values []
   by_none k = ap (λ (d : Check). written_reply (written_for d w e)) k
 
 module _ (area : List ℕ) (w : Writer) where

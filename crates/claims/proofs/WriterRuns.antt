@@ -1,11 +1,11 @@
 -- The answers to any calls on a writer meet the claim over the whole list, and no others do.
+use Rattle.std.specs.Prelude.{Ok, Err}
 use mathlib.Core.Path.{◌≡◌, refl, sym, ap, ap₂, subst, ◌∙◌}
 use mathlib.Core.List.{List, [], ◌∷◌}
 use Prim.Native.Nat.{ℕ}
 use lib.ListN.{length}
 use Rattle.event.specs.declared.Refusal.{Refusal}
-use Rattle.event.specs.declared.Check.{Check}
-use Rattle.event.specs.declared.Check.TheVariants.{Passed, Refused as Breaks}
+use Rattle.event.specs.Answers.{Check}
 use Rattle.event.specs.Numbers.{number_of}
 use Rattle.event.specs.Reply.{Reply}
 use Rattle.codec.specs.Placed.{laid}
@@ -52,13 +52,13 @@ module _ (room : ℕ) (preamble : List ℕ) (lines : ℕ) where
     step : (c : WriterCall) → ((g : History) (next : List ℕ) → Holds room preamble lines g next → LeadsTo g next calls) → (d : Check) →
         first_broken (call_limits room free lines h c) ≡ d → Checked (call_limits room free lines h c) d → LeadsTo h area (c ∷ calls)
     unfolding written_by
-    step c go Passed p (Checked.none n) =
+    step c go (Ok tt) p (Checked.none n) =
         let l = lays room preamble lines h area k c n in
         led c (history_after c h) (laid (place_after free h) l.bytes area) (Reply.values (call_values free h c)) l.answer l.left
         (ap (λ (d : Check). written_by room free lines (unless_refused d (history_after c h) h) calls) p)
         (λ rest run. WriterRun.takes n run)
         (go (history_after c h) (laid (place_after free h) l.bytes area) l.holds)
-    step c go (Breaks x) p (Checked.first n) =
+    step c go (Err x) p (Checked.first n) =
         let s = stays room preamble lines h area k c n in
         led c h area (Reply.refused (number_of x) 0) s.answer s.left
         (ap (λ (d : Check). written_by room free lines (unless_refused d (history_after c h) h) calls) p)

@@ -6,7 +6,7 @@ use native.Mathlib.Omega.{arith}
 use lib.ListN.{length, take}
 use Rattle.event.specs.declared.Record.{Record}
 use Rattle.event.specs.declared.Refusal.{Refusal}
-use Rattle.event.specs.declared.Check.{Check}
+use Rattle.event.specs.Answers.{Check}
 use Rattle.event.specs.Numbers.{number_of}
 use Rattle.event.specs.Reply.{Reply}
 use Rattle.codec.specs.Placed.{laid}

@@ -1,4 +1,5 @@
 -- What a writer wrote: the trace of the accepted events, which the judge accepts and which reads back.
+use Rattle.std.specs.Prelude.{Ok, Err}
 use mathlib.Core.Path.{◌≡◌, refl, sym, ap, ap₂, subst, ◌∙◌}
 use mathlib.Core.Bool.{true, false, not, ◌&&◌}
 use mathlib.Core.Logic.{◌⊎◌, inl, inr}
@@ -14,10 +15,7 @@ use Rattle.event.specs.declared.Event.TheVariants.{Store, WriteBack, Fence, Begi
 use Rattle.event.specs.declared.Record.{Record}
 use Rattle.event.specs.declared.Refusal.{Refusal}
 use Rattle.event.specs.declared.Refusal.TheVariants.{MarkDiffers}
-use Rattle.event.specs.declared.Check.{Check}
-use Rattle.event.specs.declared.Check.TheVariants.{Passed, Refused as Breaks}
-use Rattle.event.specs.declared.Parsed.{Parsed}
-use Rattle.event.specs.declared.Parsed.TheVariants.{Read}
+use Rattle.event.specs.Answers.{Check, Parsed}
 use Rattle.event.specs.Numbers.{kind_of, number_of}
 use Rattle.event.specs.Reply.{Reply}
 use Rattle.window.specs.Window.{bad_lines}
@@ -34,7 +32,6 @@ use Rattle.history.proofs.Given.{Checked, checked, first_broken_lem, none_broken
 use Rattle.trailer.specs.declared.Trailer.{Trailer}
 use Rattle.trailer.specs.Trailer.{trailer_size, most_bytes, same_bytes, trailer_bytes, has_mark, trailer_with, file_limits}
 use Rattle.trailer.proofs.Written.{opened}
-use Rattle.trace.specs.declared.TraceCheck.TheVariants.{Passed as AllPass}
 use Rattle.trace.specs.Checked.{unless_broken, check_from, check_all}
 use Rattle.trace.specs.Layout.{records_bytes, trace_bytes}
 use Rattle.trace.proofs.ReadBack.{trace_length, trailer_read, trace_known, records_read, events_read, lines_read}
@@ -53,19 +50,19 @@ use Rattle.claims.proofs.WriterRuns.{LeadsTo, leads, one_writer_run}
 use Rattle.claims.proofs.WriterLimits.{from_bytes_lem}
 
 -- records of accepted events pass, and those after them decide
-map_append : (events more : List Record) → map Read (events ++ more) ≡ map Read events ++ map Read more
+map_append : (events more : List Record) → map Ok (events ++ more) ≡ map Ok events ++ map Ok more
 map_append [] more = refl
-map_append (r ∷ events) more = ap (λ (l : List Parsed). Read r ∷ l) (map_append events more)
+map_append (r ∷ events) more = ap (λ (l : List Parsed). Ok r ∷ l) (map_append events more)
 
 chain_checked : {lines : ℕ} {h : History} → Chain lines h → (rest : List Parsed) →
-    check_from lines 1 [] (map Read (reverse h) ++ rest) ≡ check_from lines (suc (length h)) h rest
+    check_from lines 1 [] (map Ok (reverse h) ++ rest) ≡ check_from lines (suc (length h)) h rest
 unfolding check_from refusal_by
 chain_checked Chain.start rest = refl
 chain_checked {lines} (Chain.next {h = h} {r = r} a c) rest =
-    ap (λ (l : List Record). check_from lines 1 [] (map Read l ++ rest)) (reverse-cons r h) ∙
+    ap (λ (l : List Record). check_from lines 1 [] (map Ok l ++ rest)) (reverse-cons r h) ∙
     ap (λ (l : List Parsed). check_from lines 1 [] (l ++ rest)) (map_append (reverse h) (r ∷ [])) ∙
-    ap (check_from lines 1 []) (append_assoc (map Read (reverse h)) (Read r ∷ []) rest) ∙
-    chain_checked c (Read r ∷ rest) ∙
+    ap (check_from lines 1 []) (append_assoc (map Ok (reverse h)) (Ok r ∷ []) rest) ∙
+    chain_checked c (Ok r ∷ rest) ∙
     ap (λ (x : Check). unless_broken x (suc (length h)) (check_from lines (suc (suc (length h))) (r ∷ h) rest)) (none_broken a)
 
 none_both : {a b : List Limit} → NoneBroken a → NoneBroken b → NoneBroken (a ++ b)
@@ -84,7 +81,7 @@ module _ (preamble : List ℕ) (events : List Record) (lines : ℕ) (window : ba
   counted : area_size file ≡ finding_size * length events
   counted = ap (λ (t : Trailer). finding_size * t.count) (trailer_read preamble events lines)
 
-  written_check : (found : List ℕ) → finding_size * length events ≤ length found → trace_check file found ≡ check_all lines (map Read events)
+  written_check : (found : List ℕ) → finding_size * length events ≤ length found → trace_check file found ≡ check_all lines (map Ok events)
   written_check found room =
       records_check file found (none_both file_limits_lem (NoneBroken.cons (le-ltb (length found) (area_size file) (rw counted room)) NoneBroken.nil)) ∙
       ap₂ check_all (lines_read preamble events lines) (records_read preamble events lines)
@@ -166,8 +163,8 @@ module _ (room : ℕ) (preamble : List ℕ) (lines : ℕ) (window : bad_lines li
     where
       go : (d : Check) → Checked (call_limits room (length preamble) lines h c) d →
           ((x : Refusal) × Stays room preamble lines h area k c x) ⊎ Lays room preamble lines h area k c
-      go Passed (Checked.none n) = inr (lays room preamble lines h area k c n)
-      go (Breaks x) (Checked.first n) = inl (x, stays room preamble lines h area k c n)
+      go (Ok tt) (Checked.none n) = inr (lays room preamble lines h area k c n)
+      go (Err x) (Checked.first n) = inl (x, stays room preamble lines h area k c n)
 
   -- so a refused call changes nothing, and another leaves every other byte as it was
   unchanged : (c : WriterCall) (number place : ℕ) → call_reply now c ≡ Reply.refused number place → writing_next now c ≡ now
@@ -208,8 +205,8 @@ module _ (room : ℕ) (preamble : List ℕ) (lines : ℕ) (window : bad_lines li
     where
       go : (c : Check) → first_broken (close_limits room at (depth h)) ≡ c → Checked (close_limits room at (depth h)) c →
           NoneBroken (close_limits room at (depth h))
-      go Passed p (Checked.none n) = n
-      go (Breaks x) p (Checked.first n) = absurd (not_refused e (closing_reply_lem room preamble lines h area k p))
+      go (Ok tt) p (Checked.none n) = n
+      go (Err x) p (Checked.first n) = absurd (not_refused e (closing_reply_lem room preamble lines h area k p))
 
   closed_file : (size : ℕ) → Closes now size → take size (writing_next now WriterCall.closes).area ≡ trace_bytes preamble (reverse h) lines
   closed_file size e =
@@ -226,8 +223,8 @@ module _ (room : ℕ) (preamble : List ℕ) (lines : ℕ) (window : bad_lines li
   judged size e found enough =
       let closed : depth h ≡ 0 = (close_fits room at (depth h) (closes_none size e)).0 in
       let trace = trace_bytes preamble (reverse h) lines in
-      let passes : trace_check trace found ≡ AllPass =
-      written_check preamble (reverse h) lines window short found (rw count enough) ∙ ap (check_from lines 1 []) (sym (append-nil (map Read (reverse h)))) ∙
+      let passes : trace_check trace found ≡ (Ok tt) =
+      written_check preamble (reverse h) lines window short found (rw count enough) ∙ ap (check_from lines 1 []) (sym (append-nil (map Ok (reverse h)))) ∙
       chain_checked k.chain [] ∙ (rw (eq-eqb (depth h) 0 closed)) in
       (_, ap verdict_reply (totalled trace found passes))
 
@@ -246,8 +243,8 @@ module _ (room : ℕ) (preamble : List ℕ) (lines : ℕ) (window : bad_lines li
         ap verdict_reply
         (refuses trace found
         (written_check preamble (reverse (r ∷ h)) lines window (rw more (omega arith)) found (rw more enough) ∙
-        ap (λ (l : List Record). check_from lines 1 [] (map Read l)) (reverse-cons r h) ∙
-        ap (check_from lines 1 []) (map_append (reverse h) (r ∷ [])) ∙ chain_checked k.chain (Read r ∷ []) ∙
+        ap (λ (l : List Record). check_from lines 1 [] (map Ok l)) (reverse-cons r h) ∙
+        ap (check_from lines 1 []) (map_append (reverse h) (r ∷ [])) ∙ chain_checked k.chain (Ok r ∷ []) ∙
         ap (λ (c : Check). unless_broken c (suc (length h)) (check_from lines (suc (suc (length h))) (r ∷ h) [])) (first_broken_lem n))),
   )
 
@@ -259,8 +256,8 @@ module _ (room : ℕ) (preamble : List ℕ) (lines : ℕ) (window : bad_lines li
     where
       go : (c : Check) → first_broken (write_limits room at (of_history lines h) r.event) ≡ c → Checked (write_limits room at (of_history lines h) r.event) c →
           NoneBroken (write_limits room at (of_history lines h) r.event)
-      go Passed p (Checked.none n) = n
-      go (Breaks x) p (Checked.first n) = absurd (not_refused e (event_reply room preamble lines h next l r p))
+      go (Ok tt) p (Checked.none n) = n
+      go (Err x) p (Checked.first n) = absurd (not_refused e (event_reply room preamble lines h next l r p))
 
   after_closing_lem : (r : Record) (size : ℕ) → let g = writing_next now WriterCall.closes in
       Closes now size → call_reply g (WriterCall.writes r) ≡ Reply.values [] →

@@ -2,7 +2,7 @@
 -- that a refused fresh window hands over.
 use Rattle.std.specs.Prelude.{List, [], map, ℕ}
 use Rattle.event.specs.declared.Record.{Record}
-use Rattle.event.specs.declared.Answer.{Answer}
+use Rattle.event.specs.Answers.{Answer}
 use Rattle.event.specs.Reply.{Reply, answer_reply}
 use Rattle.history.specs.History.{History}
 use Rattle.history.specs.Given.{window_of, accepted}

@@ -2,7 +2,7 @@
 -- whatever breaks a stated limit is refused by the first number that applies, and by no number otherwise; run, findings area, writer and
 -- its area, and page area are then what they were. The numbers 1 to 14 are document 01's; so is the record's number beside each. 15 is
 -- request 1's, 16 is request 3's, 17 is request 4's, 18 is request 8's. Request 5 retired 8.
-use Rattle.std.specs.Prelude.{◌≡◌, ◌≢◌, ◌⊎◌, List, [], ◌∷◌, ◌++◌, ℕ, suc, ◌+◌, ◌≤◌, ◌<◌, length, drop, get_or}
+use Rattle.std.specs.Prelude.{◌≡◌, ◌≢◌, ◌⊎◌, List, [], ◌∷◌, ◌++◌, ℕ, suc, ◌+◌, ◌≤◌, ◌<◌, length, drop, get_or, Ok}
 use Rattle.event.specs.declared.Event.{Event}
 use Rattle.event.specs.declared.Interval.TheVariants.{Closed}
 use Rattle.event.specs.declared.Record.{Record}
@@ -29,7 +29,6 @@ use Rattle.trace.specs.Records.{lines_in}
 use Rattle.verdict.specs.Verdict.{trace_limits, verdict_of, verdict_reply}
 use Rattle.trace_exposure.specs.TraceExposure.{trace_exposure_of, trace_exposure_reply}
 use Rattle.file.specs.declared.Writer.{Writer}
-use Rattle.file.specs.declared.Started.TheVariants.{Ready}
 use Rattle.file.specs.Limits.{start_limits, write_limits, bytes_limits, close_limits}
 use Rattle.file.specs.Write.{writer_with, records_end, view_of, started_of, area_started, written_of, area_written, bytes_written_of, area_bytes_written, closed_of, area_closed}
 use Rattle.file.specs.Reply.{start_reply, written_reply, closed_reply}
@@ -97,7 +96,7 @@ pub record Demand1 : Type 0 where
   pub start_refused : (area preamble : List ℕ) (lines : ℕ) {x : Refusal} → First (start_limits (length area) (length preamble) lines) x →
       (start_reply (started_of area preamble lines) ≡ Reply.refused (number_of x) 0) × (area_started area preamble lines ≡ area)
   pub start_taken : (area preamble : List ℕ) (lines : ℕ) → NoneBroken (start_limits (length area) (length preamble) lines) →
-      (started_of area preamble lines ≡ Ready (writer_with lines (length preamble) 0 0)) ×
+      (started_of area preamble lines ≡ Ok (writer_with lines (length preamble) 0 0)) ×
       (area_started area preamble lines ≡ preamble ++ drop (length preamble) area)
   -- an event given to any writer: the first of 2, 9, 18, 10, 11, 12, 15 that applies, with writer and area as they were
   pub write_numbers : (room at : ℕ) (v : View) (e : Event) → limit_numbers (write_limits room at v e) ≡ 2 ∷ 9 ∷ 18 ∷ 10 ∷ 11 ∷ 12 ∷ 15 ∷ []

@@ -1,14 +1,12 @@
 -- Request 5: ranges of no bytes. A length of 0 means no byte and no line. What an event with such a range gets, and what it does: for
 -- every run whatever, or after every list of given events from the run of every asked line count.
-use Rattle.std.specs.Prelude.{◌≡◌, true, false, ◌≢◌, ◌⊎◌, ◌↔◌, ℕ, ◌≤◌, ◌<◌}
+use Rattle.std.specs.Prelude.{◌≡◌, true, false, ◌≢◌, ◌⊎◌, ◌↔◌, ℕ, ◌≤◌, ◌<◌, Ok}
 use mathlib.Core.List.{List, [], ◌∷◌, Memᴰ}
 use Rattle.event.specs.declared.Range.{Range}
 use Rattle.event.specs.declared.Event.TheVariants.{End, Persisted, Ordered}
 use Rattle.event.specs.declared.Record.{Record}
 use Rattle.event.specs.declared.Finding.TheVariants.{None}
 use Rattle.event.specs.declared.Refusal.{Refusal}
-use Rattle.event.specs.declared.Check.TheVariants.{Passed}
-use Rattle.event.specs.declared.Answer.TheVariants.{Found}
 use Rattle.event.specs.Numbers.{number_of}
 use Rattle.event.specs.Reply.{Reply}
 use Rattle.window.specs.Window.{window_bytes}
@@ -36,8 +34,8 @@ pub record EmptyRanges : Type 0 where
       window_bytes (window_of asked) < a.address → given_reply (give_of (run_from asked given) r) ≡ Reply.refused 9 0
   -- a store, a write-back and a log of no bytes that no number refuses draw no warning, and leave any run as it was, with one event
   -- more: no interval opens, and no transaction becomes non-empty
-  pub nothing_else : (run : Run) (r : Record) → OfNoBytes r.event → refusal_by (of_run run) r.event ≡ Passed →
-      give_of run r ≡ record { answer = Found None; run = one_event_more run }
+  pub nothing_else : (run : Run) (r : Record) → OfNoBytes r.event → refusal_by (of_run run) r.event ≡ (Ok tt) →
+      give_of run r ≡ record { answer = Ok None; run = one_event_more run }
   -- an outermost end after no stores but such since its begin is empty; a transaction is not empty exactly if a byte was stored in it
   pub ends : (asked : ℕ) (given : List Record) (r : Record) → let h = taken_from asked given in
       Accepted (window_of asked) h r → r.event ≡ End → depth h ≡ 1 →

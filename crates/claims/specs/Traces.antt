@@ -1,9 +1,8 @@
 -- A trace: which of its records is refused first, and what the findings area of an accepted one holds.
-use Rattle.std.specs.Prelude.{◌≡◌, List, ◌∷◌, ◌++◌, [], map, ℕ, zero, suc, ◌*◌, length, take, drop}
+use Rattle.std.specs.Prelude.{◌≡◌, List, ◌∷◌, ◌++◌, [], map, ℕ, zero, suc, ◌*◌, length, take, drop, Ok}
 use Rattle.event.specs.declared.Record.{Record}
 use Rattle.event.specs.declared.Finding.{Finding}
 use Rattle.event.specs.declared.Refusal.{Refusal}
-use Rattle.event.specs.declared.Parsed.TheVariants.{Read}
 use Rattle.event.specs.Reply.{Reply, finding_values}
 use Rattle.codec.specs.Codec.{finding_bytes, finding_size}
 use Rattle.records.specs.Record.{record_size, record_of}
@@ -52,7 +51,7 @@ Rejected trace area number at = (verdict_reply (verdict_of trace area) ≡ Reply
 -- a trace accepted with these totals
 pub record GivenSingly (trace area totals : List ℕ) : Type 0 where
   -- every record is an event
-  pub records : records_in trace ≡ map Read (events_in trace)
+  pub records : records_in trace ≡ map Ok (events_in trace)
   -- the window that it is judged from is not refused
   pub window : window_reply (fresh_of (lines_in trace)) ≡ Reply.values []
   -- the area holds, for each record in order, the finding that its event gets when the trace's events are given singly from there

@@ -1,9 +1,8 @@
 -- Request 1: traces that a writer wrote. Over every area, preamble and line count that a start accepts, and every list of calls in any
 -- order: events, as records or as the bytes of records, and closings, refused ones among them.
-use Rattle.std.specs.Prelude.{◌≡◌, ◌⊎◌, List, [], ◌∷◌, ◌++◌, map, reverse, ℕ, suc, ◌+◌, ◌*◌, ◌≤◌, ◌<◌, length, take, get_or}
+use Rattle.std.specs.Prelude.{◌≡◌, ◌⊎◌, List, [], ◌∷◌, ◌++◌, map, reverse, ℕ, suc, ◌+◌, ◌*◌, ◌≤◌, ◌<◌, length, take, get_or, Ok}
 use Rattle.event.specs.declared.Record.{Record}
 use Rattle.event.specs.declared.Refusal.{Refusal}
-use Rattle.event.specs.declared.Parsed.TheVariants.{Read}
 use Rattle.event.specs.Numbers.{number_of}
 use Rattle.event.specs.Reply.{Reply}
 use Rattle.codec.specs.Codec.{finding_size}
@@ -34,7 +33,7 @@ Judged trace count = (found : List ℕ) → finding_size * count ≤ length foun
 
 -- reading the trace back yields these events in this order, the lines, and the preamble untouched
 pub record ReadsBack (trace preamble : List ℕ) (written : List Record) (lines : ℕ) : Type 0 where
-  pub records : records_in trace ≡ map Read written
+  pub records : records_in trace ≡ map Ok written
   pub events : events_in trace ≡ written
   pub window : lines_in trace ≡ lines
   pub front : take (trailer_of trace).offset trace ≡ preamble

@@ -1,11 +1,10 @@
 -- Calls on a writer one after another, in any order, after a start that was accepted. Nobody else writes the area, so each call finds
 -- it as the one before left it. What is accepted is read off the list of calls, by the area's length, the preamble's and the lines; no
 -- writer is asked.
-use Rattle.std.specs.Prelude.{List, [], ◌∷◌, ℕ, ◌+◌, ◌*◌, length}
+use Rattle.std.specs.Prelude.{List, [], ◌∷◌, ℕ, ◌+◌, ◌*◌, length, Ok, Err}
 use Rattle.event.specs.declared.Record.{Record}
 use Rattle.event.specs.declared.Refusal.{Refusal}
-use Rattle.event.specs.declared.Check.{Check}
-use Rattle.event.specs.declared.Check.TheVariants.{Passed, Refused as Breaks}
+use Rattle.event.specs.Answers.{Check}
 use Rattle.event.specs.Numbers.{number_of}
 use Rattle.event.specs.Reply.{Reply}
 use Rattle.records.specs.Record.{record_size, record_of}
@@ -86,8 +85,8 @@ history_after WriterCall.closes h = h
 
 -- a refused call leaves them as they were
 abbrev pub unless_refused : Check → (next h : History) → History
-unless_refused Passed next h = next
-unless_refused (Breaks x) next h = h
+unless_refused (Ok tt) next h = next
+unless_refused (Err x) next h = h
 
 -- the accepted events after the calls, the newest first
 unfoldable pub written_by : (room preamble lines : ℕ) → History → List WriterCall → History

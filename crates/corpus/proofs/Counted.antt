@@ -2,11 +2,11 @@
 use Rattle.std.proofs.Common.{◌≡◌, ℕ, suc, ◌+◌, ◌-◌, ◌*◌, ◌<◌, ◌≤◌, List, get_or, refl, arith}
 use Rattle.event.specs.declared.Refusal.{Refusal}
 use Rattle.event.specs.Numbers.{number_of}
-use Rattle.verdict.specs.declared.Verdict.{Verdict}
-use Rattle.verdict.specs.declared.Verdict.TheVariants.{Refused, Accepted}
+use Rattle.verdict.specs.Answers.{Verdict}
 use Rattle.verdict.specs.Verdict.{verdict_of, verdict_reply, area_after}
 use Rattle.codec.specs.Codec.{finding_size}
 use Rattle.corpus.specs.Tally.{counted, place_of, kinds_from, kinds_in}
+use Rattle.event.specs.Answers.{refused_at, totals}
 
 -- the kinds from one finding on: its kind, and then those after it
 module _ (area : List ℕ) (i events : ℕ) (counts : List ℕ) where
@@ -24,12 +24,12 @@ module _ (area : List ℕ) (i events : ℕ) (counts : List ℕ) where
 
 -- an answer and its findings, as the code counts them by the answer's case
 module _ (answer : Verdict) (area answers kinds : List ℕ) where
-  pub refused_counted : {x : Refusal} {n place : ℕ} {later : List ℕ} → answer ≡ Refused x n → place ≡ number_of x →
+  pub refused_counted : {x : Refusal} {n place : ℕ} {later : List ℕ} → answer ≡ refused_at x n → place ≡ number_of x →
       later ≡ counted place answers →
       (later ≡ counted (place_of (verdict_reply answer)) answers) × (kinds ≡ kinds_in answer area kinds)
   refused_counted e p k = rw (e, ← p) (k, refl)
 
-  pub accepted_counted : {events fences findings : ℕ} {later more : List ℕ} → answer ≡ Accepted events fences findings →
+  pub accepted_counted : {events fences findings : ℕ} {later more : List ℕ} → answer ≡ totals events fences findings →
       later ≡ counted 0 answers → more ≡ kinds_from 0 events area kinds →
       (later ≡ counted (place_of (verdict_reply answer)) answers) × (more ≡ kinds_in answer area kinds)
   accepted_counted e k m = rw e (k, m)

@@ -1,9 +1,9 @@
 -- Answers and findings, counted by their numbers.
-use Rattle.std.specs.Prelude.{ℕ, zero, suc, ◌+◌, ◌*◌, ◌%◌, List, slice_index, slice_set}
+use Rattle.std.specs.Prelude.{ℕ, zero, suc, ◌+◌, ◌*◌, ◌%◌, List, slice_index, slice_set, Ok, Err}
 use Rattle.event.specs.Reply.{Reply}
-use Rattle.verdict.specs.declared.Verdict.{Verdict}
-use Rattle.verdict.specs.declared.Verdict.TheVariants.{Refused, Accepted}
+use Rattle.verdict.specs.Answers.{Verdict}
 use Rattle.codec.specs.Codec.{finding_size}
+use Rattle.event.specs.Answers.{refused_at, totals}
 
 -- one more at a place; 32 bits wrap
 abbrev pub counted : ℕ → List ℕ → List ℕ
@@ -21,5 +21,5 @@ kinds_from before (suc count) area counts = kinds_from (suc before) count area (
 
 -- those of an accepted trace; a refused one has none
 abbrev pub kinds_in : Verdict → (area counts : List ℕ) → List ℕ
-kinds_in (Refused x n) area counts = counts
-kinds_in (Accepted events fences findings) area counts = kinds_from 0 events area counts
+kinds_in (Err r) area counts = counts
+kinds_in (Ok t) area counts = kinds_from 0 t.events area counts

@@ -7,8 +7,7 @@ ghost use Rattle.verdict.specs.Verdict.{verdict_of, verdict_reply, area_after};
 ghost use Rattle.corpus.specs.Agrees.{area_before, Agrees, Tests};
 ghost use Rattle.corpus.specs.Tally.{counted, place_of, kinds_from, kinds_in};
 
-use event::numbers;
-use verdict::Verdict;
+use event::{Totals, TraceRefusal, numbers};
 
 // Makes every byte of the area A5h.
 fn fill(area: &mut [u8])
@@ -56,17 +55,17 @@ fn count_kinds(kinds: &mut [u32], area: &[u8], events: u16)
 }
 
 // Counts an answer at its number, 0 where the trace is accepted, and then the findings in the area at their kinds.
-fn tally(answer: Verdict, area: &[u8], answers: &mut [u32], kinds: &mut [u32])
+fn tally(answer: Result<Totals, TraceRefusal>, area: &[u8], answers: &mut [u32], kinds: &mut [u32])
     ensures answers_after { answers.new ≡ counted (place_of (verdict_reply answer)) answers.old }
     ensures kinds_after { kinds.new ≡ kinds_in answer area.now kinds.old }
 {
     match answer {
-        Verdict::Refused { refusal, record: _ } => count(answers, numbers::number(refusal)),
-        Verdict::Accepted {
+        Err(TraceRefusal { refusal: refusal, at: _ }) => count(answers, numbers::number(refusal)),
+        Ok(Totals {
             events,
             fences: _,
             findings: _,
-        } => {
+        }) => {
             count(answers, 0);
             count_kinds(kinds, area, events);
         }

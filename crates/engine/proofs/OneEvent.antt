@@ -1,4 +1,5 @@
 -- A run that tracks a history tracks it with one more accepted event.
+use Rattle.std.specs.Prelude.{Ok}
 use mathlib.Core.Path.{◌≡◌, refl, ap, ap₂, ◌∙◌}
 use mathlib.Core.Bool.{Bool, true, false, cond, not, ◌&&◌, and_assoc, and-false}
 use mathlib.Core.List.{◌∷◌}
@@ -11,7 +12,6 @@ use lib.ListN.{length}
 use borrow.Author.Tests.{eq-eqb, ne_eqb}
 use Rattle.event.specs.declared.Record.{Record}
 use Rattle.event.specs.declared.Finding.{Finding}
-use Rattle.event.specs.declared.Answer.TheVariants.{Found}
 use Rattle.event.specs.Numbers.{is_none}
 use Rattle.event.proofs.Bools.{and_left}
 use Rattle.window.specs.Window.{most_lines, window_bytes, line_of}
@@ -167,7 +167,7 @@ module _ (lines : ℕ) (m : lines ≤ most_lines) (h : History) (run : Run) (k :
         }
 
     -- a finding other than none is counted
-    pub findings_next : (f : Finding) → (next_of run r.event f).counts.findings ≡ run.counts.findings + counts (Found f)
+    pub findings_next : (f : Finding) → (next_of run r.event f).counts.findings ≡ run.counts.findings + counts (Ok f)
     unfolding counts_after
     findings_next f = go (is_none f)
       where

@@ -1,7 +1,7 @@
 -- Events given one after another, each to the run that the one before it handed over.
 use Rattle.std.specs.Prelude.{List, [], ◌∷◌}
 use Rattle.event.specs.declared.Record.{Record}
-use Rattle.event.specs.declared.Answer.{Answer}
+use Rattle.event.specs.Answers.{Answer}
 use Rattle.tables.specs.declared.Run.{Run}
 use Rattle.events.specs.Give.{give_of}
 

@@ -5,33 +5,15 @@ ghost use Rattle.std.specs.Prelude.{◌≡◌};
 ghost use Rattle.events.specs.Give.{give_of};
 ghost use Rattle.engine.specs.Call.{empty_run, fresh_of, ask_of, close_of};
 
-use event::{Check, NamedInterval, Range, Record, Refusal};
+use event::{NamedInterval, Range, Record, Refusal, Totals};
 use events::Given;
 use tables::Run;
 
 // A fresh window: what the check of its lines says, and the run.
 #[derive(Drop)]
 pub struct Window {
-    pub check: Check,
+    pub check: Result<(), Refusal>,
     pub run: Run,
-}
-
-// A byte asked.
-#[derive(Clone, Copy)]
-pub enum Asked {
-    Refused(Refusal),
-    Known(NamedInterval),
-}
-
-// A run closed. `findings` counts those other than none.
-#[derive(Clone, Copy)]
-pub enum Closing {
-    Refused(Refusal),
-    Totals {
-        events: u16,
-        fences: u16,
-        findings: u16,
-    },
 }
 
 // A run in which nothing has happened.
@@ -56,12 +38,12 @@ pub fn fresh(lines: u16) -> Window
     ensures { result ≡ fresh_of lines }
 {
     match window::check_lines(lines) {
-        Check::Passed => Window {
-            check: Check::Passed,
+        Ok(()) => Window {
+            check: Ok(()),
             run: empty_run(lines),
         },
-        Check::Refused(x) => Window {
-            check: Check::Refused(x),
+        Err(x) => Window {
+            check: Err(x),
             run: empty_run(1),
         },
     }
@@ -111,7 +93,7 @@ pub fn give(run: Run, r: Record) -> Given
 }
 
 // The persist interval of a byte with its events, or 9 where the byte is past the window.
-pub fn ask(run: Run, byte: u16) -> Asked
+pub fn ask(run: Run, byte: u16) -> Result<NamedInterval, Refusal>
     ensures { result ≡ ask_of run byte }
 {
     let range = Range {
@@ -119,7 +101,7 @@ pub fn ask(run: Run, byte: u16) -> Asked
         length: 1,
     };
     if ranges::is_past(tables::lines_of(run.counts), range) {
-        return Asked::Refused(Refusal::PastWindow);
+        return Err(Refusal::PastWindow);
     }
     let b = byte as usize;
     let store = run.stored[b];
@@ -127,21 +109,21 @@ pub fn ask(run: Run, byte: u16) -> Asked
     let opened = run.opened[b];
     let closed = run.closed[b];
     let written = run.written[b];
-    Asked::Known(tables::named_from(store, fenced, opened, closed, written))
+    Ok(tables::named_from(store, fenced, opened, closed, written))
 }
 
 // The totals of a run, or 13 where a transaction is open. The run may go on.
-pub fn close(run: Run) -> Closing
+pub fn close(run: Run) -> Result<Totals, Refusal>
     ensures { result ≡ close_of run }
 {
     let counts = run.counts;
     if counts.depth == 0 {
-        Closing::Totals {
+        Ok(Totals {
             events: counts.events,
             fences: counts.fences,
             findings: counts.findings,
-        }
+        })
     } else {
-        Closing::Refused(Refusal::TransactionOpen)
+        Err(Refusal::TransactionOpen)
     }
 }

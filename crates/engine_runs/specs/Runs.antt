@@ -1,8 +1,7 @@
 -- The run after a call that is read from bytes.
-use Rattle.std.specs.Prelude.{cond, List, ℕ, zero, suc, eqb, get_or}
+use Rattle.std.specs.Prelude.{cond, List, ℕ, zero, suc, eqb, get_or, Ok, Err}
 use Rattle.event.specs.declared.Event.TheVariants.{Fence}
-use Rattle.event.specs.declared.Parsed.{Parsed}
-use Rattle.event.specs.declared.Parsed.TheVariants.{Read, Refused}
+use Rattle.event.specs.Answers.{Parsed}
 use Rattle.codec.specs.Codec.{u16_at}
 use Rattle.records.specs.Record.{parsed}
 use Rattle.tables.specs.declared.Run.{Run}
@@ -11,8 +10,8 @@ use Rattle.engine.specs.Call.{fresh_of}
 
 -- after a record; one that cannot be read changes nothing
 abbrev pub after_record : Run → Parsed → Run
-after_record run (Read r) = (give_of run r).run
-after_record run (Refused x) = run
+after_record run (Ok r) = (give_of run r).run
+after_record run (Err x) = run
 
 -- after so many fences
 unfoldable pub after_fences : Run → ℕ → Run

@@ -4,12 +4,12 @@ ghost use Rattle.records.specs.Record.{parsed};
 ghost use Rattle.engine.specs.Call.{fresh_of};
 ghost use Rattle.engine_runs.specs.Runs.{after_record, after_fences, after_call};
 
-use event::{Answer, Check, Event, Parsed, Record};
+use event::{Event, Finding, Record, Refusal};
 use std::io::Write;
 use tables::Run;
 
 // A fresh window of so many lines, and what the check says.
-fn print_fresh<W: Write>(out: &mut W, lines: u16, c: Check) {
+fn print_fresh<W: Write>(out: &mut W, lines: u16, c: Result<(), Refusal>) {
     call_lines::field(out, b"fresh ", lines);
     call_lines::answered(out, replies::of_check(c));
 }
@@ -25,7 +25,7 @@ fn fresh<W: Write>(out: &mut W, lines: u16) -> Run
 }
 
 // An event given in the bytes of a record, and its answer.
-fn print_given<W: Write>(out: &mut W, bytes: &[u8], a: Answer) {
+fn print_given<W: Write>(out: &mut W, bytes: &[u8], a: Result<Finding, Refusal>) {
     call_lines::record(out, b"give ", bytes);
     call_lines::answered(out, replies::of_answer(a));
 }
@@ -35,11 +35,11 @@ fn give<W: Write>(out: &mut W, run: Run, bytes: &[u8]) -> Run
     ensures { result ≡ after_record run (parsed bytes.now) }
 {
     match records::read_record(bytes) {
-        Parsed::Refused(x) => {
-            print_given(out, bytes, Answer::Refused(x));
+        Err(x) => {
+            print_given(out, bytes, Err(x));
             run
         }
-        Parsed::Read(r) => {
+        Ok(r) => {
             let g = engine::give(run, r);
             let answer = g.answer;
             print_given(out, bytes, answer);

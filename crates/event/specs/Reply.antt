@@ -1,15 +1,12 @@
 -- An answer in the paper's numbers. "A refusal returns its number and the record's number from 1 (0 for trailer, area, closing, a
 -- fresh window, an asked byte and an event given singly)"; any other answer has its values, in the paper's order.
-use Rattle.std.specs.Prelude.{List, [], ◌∷◌, ℕ}
+use Rattle.std.specs.Prelude.{List, [], ◌∷◌, ℕ, Ok, Err}
 use Rattle.event.specs.declared.Finding.{Finding}
 use Rattle.event.specs.declared.Interval.{Interval}
 use Rattle.event.specs.declared.Interval.TheVariants.{None, Open, Closed}
 use Rattle.event.specs.declared.NamedInterval.{NamedInterval}
 use Rattle.event.specs.declared.NamedInterval.TheVariants.{None as NoneNamed, Open as OpenNamed, Closed as ClosedNamed}
-use Rattle.event.specs.declared.Check.{Check}
-use Rattle.event.specs.declared.Check.TheVariants.{Passed, Refused as Breaks}
-use Rattle.event.specs.declared.Answer.{Answer}
-use Rattle.event.specs.declared.Answer.TheVariants.{Refused, Found}
+use Rattle.event.specs.Answers.{Check, Answer}
 use Rattle.event.specs.Numbers.{fields_of, number_of}
 
 pub data Reply : Type 0 where
@@ -18,8 +15,8 @@ pub data Reply : Type 0 where
 
 -- a check of limits: it has no values
 abbrev pub check_reply : Check → Reply
-check_reply Passed = Reply.values []
-check_reply (Breaks x) = Reply.refused (number_of x) 0
+check_reply (Ok tt) = Reply.values []
+check_reply (Err x) = Reply.refused (number_of x) 0
 
 -- a finding: kind, lost, kept, moment, store
 abbrev pub finding_values : Finding → List ℕ
@@ -27,8 +24,8 @@ finding_values f = let x = fields_of f in x.kind ∷ x.lost ∷ x.kept ∷ x.mom
 
 -- an event given singly
 abbrev pub answer_reply : Answer → Reply
-answer_reply (Refused x) = Reply.refused (number_of x) 0
-answer_reply (Found f) = Reply.values (finding_values f)
+answer_reply (Err x) = Reply.refused (number_of x) 0
+answer_reply (Ok f) = Reply.values (finding_values f)
 
 -- an interval: nothing, the epoch since which it is open, or the epochs at which it opened and closed
 abbrev pub interval_values : Interval → List ℕ

@@ -1,6 +1,9 @@
 // What the paper names, as types: ranges, events, records, findings, refusals and intervals.
 #![tactic(auto)]
 
+ghost use Rattle.std.specs.Prelude.{◌≡◌};
+ghost use Rattle.event.specs.Answers.{about};
+
 pub mod numbers; // the paper's number for each case
 
 // `length` bytes from `address` on.
@@ -93,11 +96,28 @@ pub enum Refusal {
     SharedByte,
 }
 
-// What a check of the limits says.
+// A refusal of a trace, and the number of the record that it is about, from 1, or 0 for trailer, area and closing.
 #[derive(Clone, Copy)]
-pub enum Check {
-    Passed,
-    Refused(Refusal),
+pub struct TraceRefusal {
+    pub refusal: Refusal,
+    pub at: u32,
+}
+
+// A refusal that is about no record.
+impl From<Refusal> for TraceRefusal {
+    ghost from_gives = { λ x r. r ≡ about x 0 };
+
+    fn from(refusal: Refusal) -> TraceRefusal {
+        TraceRefusal { refusal, at: 0 }
+    }
+}
+
+// The totals of a run that is closed, and of a trace. `findings` counts those other than none.
+#[derive(Clone, Copy)]
+pub struct Totals {
+    pub events: u16,
+    pub fences: u16,
+    pub findings: u16,
 }
 
 // A byte's persist interval: none, open since an epoch, or closed, with the epoch that opened it and the one that closed it.
@@ -125,18 +145,4 @@ pub enum NamedInterval {
         back: u16,
         fence: u16,
     },
-}
-
-// What an event that is given gets: a refusal, or its finding.
-#[derive(Clone, Copy)]
-pub enum Answer {
-    Refused(Refusal),
-    Found(Finding),
-}
-
-// What reading a record finds.
-#[derive(Clone, Copy)]
-pub enum Parsed {
-    Read(Record),
-    Refused(Refusal),
 }

@@ -1,13 +1,12 @@
 -- A run without the tables that only a byte's answer goes by: an event given to it gets the same answer, and leads to the same run without
 -- them.
+use Rattle.std.specs.Prelude.{Ok, Err}
 use Rattle.std.proofs.Common.{◌≡◌, refl, ap}
 use Rattle.event.specs.declared.Event.{Event}
 use Rattle.event.specs.declared.Event.TheVariants.{Store, WriteBack, Fence, Begin, Log, End, Persisted, Ordered}
 use Rattle.event.specs.declared.Record.{Record}
 use Rattle.event.specs.declared.Finding.{Finding}
-use Rattle.event.specs.declared.Check.{Check}
-use Rattle.event.specs.declared.Check.TheVariants.{Passed, Refused as Breaks}
-use Rattle.event.specs.declared.Answer.TheVariants.{Found}
+use Rattle.event.specs.Answers.{Check}
 use Rattle.history.specs.Refused.{refusal_by}
 use Rattle.history.specs.Found.{finding_by}
 use Rattle.tables.specs.declared.Run.{Run}
@@ -33,7 +32,7 @@ unfolding give_of
 give_bare run r = go (refusal_by (of_run run) r.event)
   where
     go : (c : Check) → given_for c (bare run) r.event ≡ bare_given (given_for c run r.event)
-    go (Breaks x) = refl
-    go Passed =
+    go (Err x) = refl
+    go (Ok tt) =
         let f = finding_by (of_run run) r.event in
-        ap (λ (next : Run). record { answer = Found f; run = next }) (next_bare run r.event f)
+        ap (λ (next : Run). record { answer = Ok f; run = next }) (next_bare run r.event f)

@@ -1,4 +1,5 @@
 -- A store, a write-back and a log of no bytes leave any run as it was, with one event more.
+use Rattle.std.specs.Prelude.{Ok}
 use Rattle.std.proofs.Common.{◌≡◌, ℕ, Bool, List, ap, ◌∙◌, arith}
 use mathlib.Core.Option.{Option, none}
 use Rattle.event.specs.declared.Range.{Range}
@@ -6,9 +7,7 @@ use Rattle.event.specs.declared.Event.{Event}
 use Rattle.event.specs.declared.Record.{Record}
 use Rattle.event.specs.declared.Finding.{Finding}
 use Rattle.event.specs.declared.Finding.TheVariants.{None, Unlogged, LoggedTwice}
-use Rattle.event.specs.declared.Check.{Check}
-use Rattle.event.specs.declared.Check.TheVariants.{Passed}
-use Rattle.event.specs.declared.Answer.TheVariants.{Found}
+use Rattle.event.specs.Answers.{Check}
 use Rattle.window.specs.Window.{window_bytes, line_of}
 use Rattle.ranges.specs.Ranges.{line_count}
 use Rattle.history.specs.History.{OfNoBytes}
@@ -67,9 +66,9 @@ next_unchanged run {e} (OfNoBytes.write_back {a = a} z) =
     )
 next_unchanged run {e} (OfNoBytes.log {a = a} z) = rw (no_bytes_lem (next_number run.counts) a run.logged z)
 
-pub nothing_else_lem : (run : Run) (r : Record) → OfNoBytes r.event → refusal_by (of_run run) r.event ≡ Passed →
-    give_of run r ≡ record { answer = Found None; run = one_event_more run }
+pub nothing_else_lem : (run : Run) (r : Record) → OfNoBytes r.event → refusal_by (of_run run) r.event ≡ (Ok tt) →
+    give_of run r ≡ record { answer = Ok None; run = one_event_more run }
 unfolding give_of
 nothing_else_lem run r q passed =
-    ap (λ (c : Check). given_for c run r.event) passed ∙ ap (λ (f : Finding). record { answer = Found f; run = next_of run r.event f }) (finding_none (of_run run) q) ∙
-    ap (λ (next : Run). record { answer = Found None; run = next }) (next_unchanged run q)
+    ap (λ (c : Check). given_for c run r.event) passed ∙ ap (λ (f : Finding). record { answer = Ok f; run = next_of run r.event f }) (finding_none (of_run run) q) ∙
+    ap (λ (next : Run). record { answer = Ok None; run = next }) (next_unchanged run q)

@@ -1,12 +1,10 @@
 -- An event given to a run, whatever the run holds: its answer, and the run to go on with.
-use Rattle.std.specs.Prelude.{ℕ, List, []}
+use Rattle.std.specs.Prelude.{ℕ, List, [], Ok, Err}
 use Rattle.event.specs.declared.Event.{Event}
 use Rattle.event.specs.declared.Record.{Record}
 use Rattle.event.specs.declared.Finding.{Finding}
 use Rattle.event.specs.declared.Finding.TheVariants.{None}
-use Rattle.event.specs.declared.Check.{Check}
-use Rattle.event.specs.declared.Check.TheVariants.{Passed, Refused as Breaks}
-use Rattle.event.specs.declared.Answer.TheVariants.{Refused, Found}
+use Rattle.event.specs.Answers.{Check}
 use Rattle.history.specs.Refused.{refusal_by}
 use Rattle.history.specs.Found.{finding_by}
 use Rattle.tables.specs.declared.Counts.{Counts}
@@ -31,12 +29,12 @@ one_event_more run =
 
 -- the answer and the numbers of an accepted event that got this finding
 abbrev pub stepped_for : Counts → Event → Finding → Stepped
-stepped_for counts e f = record { answer = Found f; counts = counts_after counts e f }
+stepped_for counts e f = record { answer = Ok f; counts = counts_after counts e f }
 
 -- an event given: refused, and the run as it was; or its finding, and the next run
 abbrev pub given_for : Check → Run → Event → Given
-given_for Passed run e = record { answer = Found (finding_by (of_run run) e); run = next_of run e (finding_by (of_run run) e) }
-given_for (Breaks x) run e = record { answer = Refused x; run = run }
+given_for (Ok tt) run e = record { answer = Ok (finding_by (of_run run) e); run = next_of run e (finding_by (of_run run) e) }
+given_for (Err x) run e = record { answer = Err x; run = run }
 
 unfoldable pub give_of : Run → Record → Given
 give_of run r = given_for (refusal_by (of_run run) r.event) run r.event

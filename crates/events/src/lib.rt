@@ -1,8 +1,7 @@
 // An event given to tables that the caller lends, in place: nothing of them is copied.
 #![tactic(auto)]
 
-ghost use Rattle.std.specs.Prelude.{◌≡◌, ◌<◌, ◌≤◌, [], if◌then◌else◌};
-ghost use Rattle.event.specs.declared.Check.TheVariants.{Passed};
+ghost use Rattle.std.specs.Prelude.{◌≡◌, Ok, ◌<◌, ◌≤◌, [], if◌then◌else◌};
 ghost use Rattle.event.specs.Numbers.{is_none};
 ghost use Rattle.window.specs.Window.{window_bytes, line_of};
 ghost use Rattle.ranges.specs.Ranges.{line_count, range_end};
@@ -17,21 +16,21 @@ ghost use Rattle.findings.specs.Findings.{durable_at, ended_at};
 ghost use Rattle.events.specs.Next.{next_number, one_more, counted_with};
 ghost use Rattle.events.specs.Give.{outcome_of, stepped_for, given_for, give_of};
 
-use event::{Answer, Check, Event, Finding, Range, Record, numbers};
+use event::{Event, Finding, Range, Record, Refusal, numbers};
 use std::num;
 use tables::{Counts, Run};
 
 // An event given to a run: its refusal or its finding, and the run to go on with.
 #[derive(Drop)]
 pub struct Given {
-    pub answer: Answer,
+    pub answer: Result<Finding, Refusal>,
     pub run: Run,
 }
 
 // An event given to tables that the caller lends: its refusal or its finding, and the numbers to go on with.
 #[derive(Clone, Copy)]
 pub struct Stepped {
-    pub answer: Answer,
+    pub answer: Result<Finding, Refusal>,
     pub counts: Counts,
 }
 
@@ -78,7 +77,7 @@ fn store(
     writes::store(next.events, stored, dirtied, a);
     intervals::open_bytes(opened, a, counts.fences);
     Stepped {
-        answer: Answer::Found(finding),
+        answer: Ok(finding),
         counts: Counts {
             store: tables::store_after(a, counts.store, next.events),
             ..next
@@ -109,7 +108,7 @@ fn write_back(
     intervals::write_back(written, stored, a, next.events);
     writes::fill_lines(backed, a, next.events);
     Stepped {
-        answer: Answer::Found(finding),
+        answer: Ok(finding),
         counts: next,
     }
 }
@@ -136,7 +135,7 @@ fn fence(
     writes::close_lines(fenced, stored, backed, counts, next.events);
     intervals::close_epochs(closed, fenced, counts, next.events, epoch);
     Stepped {
-        answer: Answer::Found(Finding::None),
+        answer: Ok(Finding::None),
         counts: Counts {
             fences: epoch,
             fence: next.events,
@@ -152,7 +151,7 @@ fn begin(counts: Counts) -> Stepped
 {
     let next = counted(counts, Finding::None);
     Stepped {
-        answer: Answer::Found(Finding::None),
+        answer: Ok(Finding::None),
         counts: Counts {
             depth: counts.depth + 1,
             begin: tables::begin_after(counts.depth, counts.begin, next.events),
@@ -171,7 +170,7 @@ fn log(counts: Counts, logged: &mut [u16; 4096], a: Range) -> Stepped
     let next = counted(counts, finding);
     writes::fill_bytes(logged, a, next.events);
     Stepped {
-        answer: Answer::Found(finding),
+        answer: Ok(finding),
         counts: next,
     }
 }
@@ -192,7 +191,7 @@ fn end(
     let finding = findings::of_end(counts.events + 1, counts, stored, fenced, dirtied, backed);
     let next = counted(counts, finding);
     Stepped {
-        answer: Answer::Found(finding),
+        answer: Ok(finding),
         counts: Counts {
             depth: counts.depth - 1,
             ..next
@@ -227,7 +226,7 @@ fn persisted(
         a,
     );
     Stepped {
-        answer: Answer::Found(finding),
+        answer: Ok(finding),
         counts: counted(counts, finding),
     }
 }
@@ -249,7 +248,7 @@ fn ordered(
 {
     let finding = findings::of_ordered(stored, fenced, a, b);
     Stepped {
-        answer: Answer::Found(finding),
+        answer: Ok(finding),
         counts: counted(counts, finding),
     }
 }
@@ -267,10 +266,10 @@ fn accept(
     backed: &mut [u16; 64],
     e: Event,
 ) -> Stepped
-    requires { refusal_by (limits_of counts) e ≡ Passed }
+    requires { refusal_by (limits_of counts) e ≡ Ok tt }
     ensures { outcome_of result stored.new logged.new fenced.new opened.new closed.new
         written.new dirtied.new backed.new ≡
-        given_for Passed
+        given_for (Ok tt)
         (run_of counts stored.old logged.old fenced.old opened.old closed.old
         written.old dirtied.old backed.old)
         e }
@@ -310,14 +309,14 @@ pub fn step(
 {
     let e = r.event;
     match limits::check_event(tables::lines_of(counts), counts.events, counts.depth, e) {
-        Check::Refused(x) => {
+        Err(x) => {
             let unchanged = counts;
             Stepped {
-                answer: Answer::Refused(x),
+                answer: Err(x),
                 counts: unchanged,
             }
         }
-        Check::Passed => {
+        Ok(()) => {
             accept(
                 counts, stored, logged, fenced, opened, closed, written, dirtied, backed, e,
             )

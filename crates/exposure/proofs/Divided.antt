@@ -1,4 +1,5 @@
 -- The answer is the one that has the sum: quotient × divisor + remainder, with the remainder below the divisor.
+use Rattle.std.specs.Prelude.{Err}
 use mathlib.Core.Path.{◌≡◌, refl, ◌∙◌}
 use mathlib.Core.Logic.{◌≢◌}
 use Prim.Native.Nat.{ℕ, zero, suc, ◌*◌, ◌/◌, ◌%◌, ◌≤◌, ◌<◌}
@@ -8,16 +9,15 @@ use Rattle.event.specs.declared.Interval.{Interval}
 use Rattle.event.specs.declared.Refusal.TheVariants.{NoByteClosed}
 use Rattle.window.specs.Window.{window_bytes}
 use Rattle.exposure.specs.declared.Sums.{Sums}
-use Rattle.exposure.specs.declared.Exposed.{Exposed}
-use Rattle.exposure.specs.declared.Exposed.TheVariants.{Refused, Mean}
+use Rattle.exposure.specs.Answers.{Exposed, mean}
 use Rattle.exposure.specs.Exposure.{sums_of, mean_of, exposure_in, most_epochs}
 
 -- 17 where there is no byte
-pub mean_none : (sum divisor : ℕ) → divisor ≡ 0 → mean_of sum divisor ≡ Refused NoByteClosed
+pub mean_none : (sum divisor : ℕ) → divisor ≡ 0 → mean_of sum divisor ≡ Err NoByteClosed
 mean_none sum divisor z = rw z
 
 -- else a quotient and a remainder
-pub mean_some : (sum divisor : ℕ) → divisor ≢ 0 → mean_of sum divisor ≡ Mean (sum / divisor) (sum % divisor) divisor
+pub mean_some : (sum divisor : ℕ) → divisor ≢ 0 → mean_of sum divisor ≡ mean (sum / divisor) (sum % divisor) divisor
 mean_some sum zero k = absurd (k refl)
 mean_some sum (suc n) k = refl
 

@@ -1,5 +1,6 @@
 -- Mean exposure in plain words.
 -- Assumes nothing.
+use Rattle.std.specs.Prelude.{Err}
 use mathlib.Core.Path.{◌≡◌, refl, sym, ap}
 use mathlib.Core.Bool.{cond}
 use mathlib.Core.Logic.{◌≢◌, ◌↔◌}
@@ -14,7 +15,6 @@ use Rattle.event.specs.declared.Interval.TheVariants.{None, Open, Closed}
 use Rattle.event.specs.declared.Refusal.TheVariants.{NoByteClosed}
 use Rattle.event.specs.Reply.{Reply}
 use Rattle.window.specs.Window.{window_bytes}
-use Rattle.exposure.specs.declared.Exposed.TheVariants.{Refused}
 use Rattle.exposure.specs.Exposure.{one_if_closed, total, closed_count, mean_of, exposure_in, exposure_reply, IsMean}
 use Rattle.exposure.proofs.Total.{total_none, none_total}
 use Rattle.exposure.proofs.Divided.{mean_none, mean_some, remainder_below}
@@ -49,7 +49,7 @@ mean_exactly sum bytes quotient remainder divisor = (is bytes, answered)
 
 -- 17 where no byte of the window is closed, and only there
 module _ (lines : ℕ) (interval : ℕ → Interval) where
-  pub none_closed : ((b opening closing : ℕ) → b < window_bytes lines → interval b ≢ Closed opening closing) → exposure_in lines interval ≡ Refused NoByteClosed
+  pub none_closed : ((b opening closing : ℕ) → b < window_bytes lines → interval b ≢ Closed opening closing) → exposure_in lines interval ≡ Err NoByteClosed
   none_closed none = mean_none _ _ (total_none (window_bytes lines) (λ b k. go (interval b) (λ opening closing. none b opening closing k)))
     where
       go : (i : Interval) → ((opening closing : ℕ) → i ≢ Closed opening closing) → one_if_closed i ≡ 0

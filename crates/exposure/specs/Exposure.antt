@@ -1,5 +1,5 @@
 -- Mean exposure: "sum closing epoch less opening epoch over all bytes whose interval is closed, and divide by the number of such bytes."
-use Rattle.std.specs.Prelude.{◌≡◌, Bool, true, false, cond, [], ◌∷◌, ℕ, zero, suc, ◌+◌, ◌-◌, ◌*◌, ◌/◌, ◌%◌, ◌<◌}
+use Rattle.std.specs.Prelude.{◌≡◌, Bool, true, false, cond, [], ◌∷◌, ℕ, zero, suc, ◌+◌, ◌-◌, ◌*◌, ◌/◌, ◌%◌, ◌<◌, Err, Ok}
 use Rattle.event.specs.declared.Interval.{Interval}
 use Rattle.event.specs.declared.Interval.TheVariants.{None, Open, Closed}
 use Rattle.event.specs.declared.Refusal.TheVariants.{NoByteClosed}
@@ -8,8 +8,7 @@ use Rattle.event.specs.Reply.{Reply}
 use Rattle.window.specs.Window.{window_bytes}
 use Rattle.tables.specs.declared.Run.{Run}
 use Rattle.tables.specs.View.{interval_in, of_run}
-use Rattle.exposure.specs.declared.Exposed.{Exposed}
-use Rattle.exposure.specs.declared.Exposed.TheVariants.{Refused, Mean}
+use Rattle.exposure.specs.Answers.{Exposed, mean}
 use Rattle.exposure.specs.declared.Sums.{Sums}
 
 -- no epoch is later
@@ -49,8 +48,8 @@ sums_of interval bytes = record { epochs = sum_of interval bytes; bytes = closed
 
 -- quotient, remainder and divisor; 17 where no byte is closed
 abbrev pub mean_of : (sum divisor : ℕ) → Exposed
-mean_of sum zero = Refused NoByteClosed
-mean_of sum (suc n) = Mean (sum / suc n) (sum % suc n) (suc n)
+mean_of sum zero = Err NoByteClosed
+mean_of sum (suc n) = mean (sum / suc n) (sum % suc n) (suc n)
 
 -- the mean exposure in a window of so many lines, where each byte has this interval
 abbrev pub exposure_in : (lines : ℕ) (interval : ℕ → Interval) → Exposed
@@ -62,8 +61,8 @@ exposure_of run = exposure_in (of_run run).lines (interval_in run.stored run.fen
 
 -- the answer in the paper's numbers
 abbrev pub exposure_reply : Exposed → Reply
-exposure_reply (Refused x) = Reply.refused (number_of x) 0
-exposure_reply (Mean quotient remainder divisor) = Reply.values (quotient ∷ remainder ∷ divisor ∷ [])
+exposure_reply (Err x) = Reply.refused (number_of x) 0
+exposure_reply (Ok m) = Reply.values (m.quotient ∷ m.remainder ∷ m.divisor ∷ [])
 
 -- quotient, remainder and divisor are the mean of a sum over so many bytes: "quotient × divisor + remainder is the sum, the remainder below
 -- the divisor"

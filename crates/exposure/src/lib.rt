@@ -9,15 +9,12 @@ ghost use Rattle.exposure.specs.Exposure.{most_epochs, epochs_at_risk, is_closed
 use event::{Interval, Refusal};
 use tables::{Counts, Run};
 
-// A refusal, by 17; or the mean: quotient × divisor + remainder epochs, over `divisor` bytes.
+// A mean: quotient × divisor + remainder epochs, over `divisor` bytes.
 #[derive(Clone, Copy)]
-pub enum Exposed {
-    Refused(Refusal),
-    Mean {
-        quotient: u16,
-        remainder: u16,
-        divisor: u16,
-    },
+pub struct Mean {
+    pub quotient: u16,
+    pub remainder: u16,
+    pub divisor: u16,
 }
 
 // The epochs at risk of all bytes whose interval is closed, and the number of these bytes.
@@ -92,19 +89,19 @@ fn sum_bytes(
 }
 
 // So many epochs divided by so many bytes; 17 where there is no byte.
-fn mean(epochs: u32, bytes: u16) -> Exposed
+fn mean(epochs: u32, bytes: u16) -> Result<Mean, Refusal>
     requires { epochs ≤ most_epochs * bytes }
     ensures { result ≡ mean_of epochs bytes }
 {
     if bytes == 0 {
-        return Exposed::Refused(Refusal::NoByteClosed);
+        return Err(Refusal::NoByteClosed);
     }
     let divisor = bytes as u32;
-    Exposed::Mean {
+    Ok(Mean {
         quotient: (epochs / divisor) as u16,
         remainder: (epochs % divisor) as u16,
         divisor: bytes,
-    }
+    })
 }
 
 // The mean exposure of a run whose numbers and tables the caller lends.
@@ -114,7 +111,7 @@ pub fn exposure_of(
     fenced: &[u16; 4096],
     opened: &[u16; 4096],
     closed: &[u16; 4096],
-) -> Exposed
+) -> Result<Mean, Refusal>
     ensures { result ≡ exposure_in (lines_of counts) (interval_in stored.now fenced.now opened.now closed.now) }
 {
     let bytes = 64 * tables::lines_of(counts);
@@ -123,7 +120,7 @@ pub fn exposure_of(
 }
 
 // The mean exposure of a run. The run may go on.
-pub fn exposure(run: Run) -> Exposed
+pub fn exposure(run: Run) -> Result<Mean, Refusal>
     ensures { result ≡ exposure_of run }
 {
     let counts = run.counts;

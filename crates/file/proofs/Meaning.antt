@@ -1,13 +1,13 @@
 -- A file of one byte and a fence, closed; another fence, which takes the trailer's place; and the file closed again. Byte for byte, so that
 -- a wrong definition is refused here.
 -- Assumes nothing.
+use Rattle.std.specs.Prelude.{Ok}
 use mathlib.Core.Path.{◌≡◌, refl}
 use mathlib.Core.List.{List, [], ◌∷◌, ◌++◌}
 use Prim.Native.Nat.{ℕ}
 use lib.ListN.{replicate}
 use Rattle.event.specs.declared.Event.TheVariants.{Fence}
 use Rattle.event.specs.declared.Record.{Record}
-use Rattle.file.specs.declared.Closed.TheVariants.{File}
 use Rattle.file.specs.Write.{writer_with, area_started, area_written, closed_of, area_closed}
 
 abbrev fence : ℕ → Record
@@ -41,5 +41,5 @@ pub worked_again : closed_again ≡ 7 ∷ first ++ second ++ trailer 2 ++ replic
 worked_again = refl
 
 -- the length is that of the file, from the area's start
-pub worked_length : closed_of closed (writer_with 1 1 1 0) ≡ File 29
+pub worked_length : closed_of closed (writer_with 1 1 1 0) ≡ Ok 29
 worked_length = refl

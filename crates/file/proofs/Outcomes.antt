@@ -1,4 +1,5 @@
 -- The outcome of a call, by what its checks say.
+use Rattle.std.specs.Prelude.{Ok, Err}
 use mathlib.Core.Path.{◌≡◌, refl, sym, ap, ap₂, ◌∙◌}
 use mathlib.Core.Bool.{Bool, true, false, cond}
 use mathlib.Core.Logic.{◌≢◌}
@@ -12,10 +13,7 @@ use Rattle.event.specs.declared.Event.TheVariants.{Fence}
 use Rattle.event.specs.declared.Record.{Record}
 use Rattle.event.specs.declared.Refusal.{Refusal}
 use Rattle.event.specs.declared.Refusal.TheVariants.{TraceTooLong, TransactionOpen}
-use Rattle.event.specs.declared.Check.{Check}
-use Rattle.event.specs.declared.Check.TheVariants.{Passed, Refused as Breaks}
-use Rattle.event.specs.declared.Parsed.{Parsed}
-use Rattle.event.specs.declared.Parsed.TheVariants.{Read, Refused as Unread}
+use Rattle.event.specs.Answers.{Check, Parsed}
 use Rattle.event.proofs.Laws.{equal_by}
 use Rattle.codec.specs.Placed.{placed}
 use Rattle.codec.proofs.Placed.{placed_laid}
@@ -32,20 +30,20 @@ use Rattle.file.specs.Write.{records_end, view_of, area_for, record_laid, writte
 
 -- the check of an event: 2, its own limits, 15
 module _ (room : ℕ) (w : Writer) (e : Event) {t : Bool} (tested : t ≡ ltb most_bytes (records_end w + record_size + trailer_size)) where
-  pub write_long : t ≡ true → Breaks TraceTooLong ≡ write_check room w e
+  pub write_long : t ≡ true → Err TraceTooLong ≡ write_check room w e
   write_long k = rw (equal_by tested k)
 
-  pub write_refused_lem : {x : Refusal} → t ≡ false → refusal_by (view_of w) e ≡ Breaks x → Breaks x ≡ write_check room w e
+  pub write_refused_lem : {x : Refusal} → t ≡ false → refusal_by (view_of w) e ≡ Err x → Err x ≡ write_check room w e
   unfolding refusal_by
   write_refused_lem k f = rw (equal_by tested k) (part_refused (limits_by (view_of w) e) (room_limit room (records_end w + record_size) ∷ []) f)
 
-  pub write_passed : {c : Check} → t ≡ false → refusal_by (view_of w) e ≡ Passed → c ≡ first_broken (room_limit room (records_end w + record_size) ∷ []) →
+  pub write_passed : {c : Check} → t ≡ false → refusal_by (view_of w) e ≡ (Ok tt) → c ≡ first_broken (room_limit room (records_end w + record_size) ∷ []) →
       c ≡ write_check room w e
   unfolding refusal_by
   write_passed k f g = rw (equal_by tested k) (part_passed (limits_by (view_of w) e) (room_limit room (records_end w + record_size) ∷ []) f g)
 
 -- the check of a closing: 13, 15
-pub close_open : (room : ℕ) (w : Writer) → w.depth ≢ 0 → close_check room w ≡ Breaks TransactionOpen
+pub close_open : (room : ℕ) (w : Writer) → w.depth ≢ 0 → close_check room w ≡ Err TransactionOpen
 close_open room w k = rw (ne_eqb w.depth 0 k)
 
 pub close_room : (room : ℕ) (w : Writer) {c : Check} {at : ℕ} → w.depth ≡ 0 → at ≡ records_end w → c ≡ first_broken (room_limit room (at + trailer_size) ∷ []) →
@@ -53,7 +51,7 @@ pub close_room : (room : ℕ) (w : Writer) {c : Check} {at : ℕ} → w.depth �
 close_room room w k e f = rw (eq-eqb w.depth 0 k) (sym (f ∙ ap (λ (n : ℕ). first_broken (room_limit room (n + trailer_size) ∷ [])) e))
 
 -- bytes that fit are laid down where the check passes
-pub area_laid : {c : Check} {next bytes : List ℕ} {at : ℕ} (place : ℕ) (laying area : List ℕ) → c ≡ Passed → place + length laying ≤ length area →
+pub area_laid : {c : Check} {next bytes : List ℕ} {at : ℕ} (place : ℕ) (laying area : List ℕ) → c ≡ (Ok tt) → place + length laying ≤ length area →
     at ≡ place → bytes ≡ laying → next ≡ placed at bytes area → next ≡ area_for c place laying area
 area_laid place laying area p k e f g = g ∙ ap₂ (λ (n : ℕ) (s : List ℕ). placed n s area) e f ∙ placed_laid area laying place k ∙ (rw p)
 
@@ -65,33 +63,33 @@ module _ (w : Writer) (s : List ℕ) (room : ℕ) where
   abbrev long : Bool
   long = ltb most_bytes (records_end w + record_size + trailer_size)
 
-  unread_check_lem : {x : Refusal} → parsed s ≡ Unread x →
+  unread_check_lem : {x : Refusal} → parsed s ≡ Err x →
       bytes_check room w s ≡ unread_check w x
-  unread_check_lem e = ap (λ (c : Check). cond long (Breaks TraceTooLong) c) (sym (part_refused (read_limits s) rest (as_unread s e)))
+  unread_check_lem e = ap (λ (c : Check). cond long (Err TraceTooLong) c) (sym (part_refused (read_limits s) rest (as_unread s e)))
 
   -- and of one that can be read the record decides
-  read_check : {r : Record} → parsed s ≡ Read r → bytes_check room w s ≡ write_check room w (record_of s).event
-  read_check e = ap (λ (c : Check). cond long (Breaks TraceTooLong) c) (sym (part_passed (read_limits s) rest (as_read s e).passed (λ i. first_broken rest)))
+  read_check : {r : Record} → parsed s ≡ Ok r → bytes_check room w s ≡ write_check room w (record_of s).event
+  read_check e = ap (λ (c : Check). cond long (Err TraceTooLong) c) (sym (part_passed (read_limits s) rest (as_read s e).passed (λ i. first_broken rest)))
 
 -- whichever of the two numbers it is, nothing changes
-module _ (area : List ℕ) (w : Writer) (s : List ℕ) {x : Refusal} (e : parsed s ≡ Unread x) where
+module _ (area : List ℕ) (w : Writer) (s : List ℕ) {x : Refusal} (e : parsed s ≡ Err x) where
   pub bytes_unread : {v : Written} →
       v ≡ written_for (unread_check w x) w Fence → v ≡ bytes_written_of area w s
   bytes_unread k = k ∙ go (long w s (length area)) ∙ ap (λ (c : Check). written_for c w (record_of s).event) (sym (unread_check_lem w s (length area) e))
     where
-      go : (b : Bool) → written_for (cond b (Breaks TraceTooLong) (Breaks x)) w Fence ≡ written_for (cond b (Breaks TraceTooLong) (Breaks x)) w (record_of s).event
-      go true = λ i. record { check = Breaks TraceTooLong; writer = w }
-      go false = λ i. record { check = Breaks x; writer = w }
+      go : (b : Bool) → written_for (cond b (Err TraceTooLong) (Err x)) w Fence ≡ written_for (cond b (Err TraceTooLong) (Err x)) w (record_of s).event
+      go true = λ i. record { check = Err TraceTooLong; writer = w }
+      go false = λ i. record { check = Err x; writer = w }
 
   pub area_unread : area ≡ area_bytes_written area w s
   area_unread = go (long w s (length area)) ∙ ap (λ (c : Check). record_laid c w (record_of s) area) (sym (unread_check_lem w s (length area) e))
     where
-      go : (b : Bool) → area ≡ record_laid (cond b (Breaks TraceTooLong) (Breaks x)) w (record_of s) area
+      go : (b : Bool) → area ≡ record_laid (cond b (Err TraceTooLong) (Err x)) w (record_of s) area
       go true = λ i. area
       go false = λ i. area
 
 -- an event that comes as bytes which can be read
-module _ (area : List ℕ) (w : Writer) (s : List ℕ) {r : Record} (e : parsed s ≡ Read r) where
+module _ (area : List ℕ) (w : Writer) (s : List ℕ) {r : Record} (e : parsed s ≡ Ok r) where
   pub bytes_read : {v : Written} → v ≡ written_of area w r → v ≡ bytes_written_of area w s
   bytes_read k =
       k ∙ ap (written_of area w) (as_read s e).same ∙
@@ -108,5 +106,5 @@ pub bytes_parsed : (area : List ℕ) (w : Writer) (s : List ℕ) →
 bytes_parsed area w s = go (parsed s) refl
   where
     go : (p : Parsed) → parsed s ≡ p → (parsed_written_of area w p ≡ bytes_written_of area w s) × (area_parsed_written area w p ≡ area_bytes_written area w s)
-    go (Read r) e = (bytes_read area w s e refl, area_read area w s e refl)
-    go (Unread x) e = (bytes_unread area w s e refl, area_unread area w s e)
+    go (Ok r) e = (bytes_read area w s e refl, area_read area w s e refl)
+    go (Err x) e = (bytes_unread area w s e refl, area_unread area w s e)

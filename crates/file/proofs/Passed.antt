@@ -1,11 +1,11 @@
 -- What holds where the limits on a start, an event and a closing pass.
+use Rattle.std.specs.Prelude.{Ok}
 use mathlib.Core.Path.{◌≡◌}
 use mathlib.Core.List.{[], ◌∷◌}
 use Prim.Native.Nat.{ℕ, ◌+◌, ◌≤◌}
 use lib.Dec.{eqb}
 use borrow.Author.Tests.{eqb-true, ltb-false, not-false}
 use Rattle.event.specs.declared.Event.{Event}
-use Rattle.event.specs.declared.Check.TheVariants.{Passed}
 use Rattle.records.specs.Record.{record_size}
 use Rattle.history.specs.View.{View}
 use Rattle.history.specs.Refused.{limits_by, NoneBroken, first_broken, refusal_by}
@@ -35,10 +35,10 @@ module _ (room at : ℕ) (v : View) (e : Event) where
             enough = ltb-false room (at + record_size) b;
           }
 
-  pub event_passed : first_broken (write_limits room at v e) ≡ Passed → Fits room at v e
+  pub event_passed : first_broken (write_limits room at v e) ≡ (Ok tt) → Fits room at v e
   event_passed p = event_fits (passed_unbroken (write_limits room at v e) p)
 
-  pub own_passed : Fits room at v e → refusal_by v e ≡ Passed
+  pub own_passed : Fits room at v e → refusal_by v e ≡ Ok tt
   unfolding refusal_by
   own_passed k = none_broken k.own
 
@@ -51,7 +51,7 @@ pub start_fits : (room preamble lines : ℕ) → NoneBroken (start_limits room p
 start_fits room preamble lines (NoneBroken.cons a (NoneBroken.cons b (NoneBroken.cons c NoneBroken.nil))) =
     record { short = ltb-false most_bytes (preamble + trailer_size) b; enough = ltb-false room preamble c }
 
-pub start_passed : (room preamble lines : ℕ) → first_broken (start_limits room preamble lines) ≡ Passed → Starts room preamble
+pub start_passed : (room preamble lines : ℕ) → first_broken (start_limits room preamble lines) ≡ (Ok tt) → Starts room preamble
 start_passed room preamble lines p = start_fits room preamble lines (passed_unbroken (start_limits room preamble lines) p)
 
 -- a closing
@@ -59,5 +59,5 @@ pub close_fits : (room at depth : ℕ) → NoneBroken (close_limits room at dept
 close_fits room at depth (NoneBroken.cons a (NoneBroken.cons b NoneBroken.nil)) =
     (eqb-true depth 0 (not-false (eqb depth 0) a), ltb-false room (at + trailer_size) b)
 
-pub close_passed : (room : ℕ) (w : Writer) → close_check room w ≡ Passed → records_end w + trailer_size ≤ room
+pub close_passed : (room : ℕ) (w : Writer) → close_check room w ≡ (Ok tt) → records_end w + trailer_size ≤ room
 close_passed room w p = (close_fits room (records_end w) w.depth (passed_unbroken (close_limits room (records_end w) w.depth) p)).1

@@ -1,14 +1,11 @@
 -- The calls of a writer, for every area and every writer whatever: the answer, the writer to go on with, and the area. A refused call
 -- changes nothing; an accepted one lays its bytes down, and every other byte of the area stays.
-use Rattle.std.specs.Prelude.{true, List, [], ◌∷◌, ℕ, suc, ◌+◌, ◌*◌, length}
+use Rattle.std.specs.Prelude.{true, List, [], ◌∷◌, ℕ, suc, ◌+◌, ◌*◌, length, Ok, Err}
 use Rattle.event.specs.declared.Event.{Event}
 use Rattle.event.specs.declared.Event.TheVariants.{Fence}
 use Rattle.event.specs.declared.Record.{Record}
 use Rattle.event.specs.declared.Refusal.{Refusal}
-use Rattle.event.specs.declared.Check.{Check}
-use Rattle.event.specs.declared.Check.TheVariants.{Passed, Refused as Breaks}
-use Rattle.event.specs.declared.Parsed.{Parsed}
-use Rattle.event.specs.declared.Parsed.TheVariants.{Read, Refused as Unread}
+use Rattle.event.specs.Answers.{Check, Parsed}
 use Rattle.codec.specs.Placed.{laid}
 use Rattle.records.specs.Record.{record_size, record_of, record_bytes}
 use Rattle.history.specs.Transaction.{depth_after}
@@ -17,11 +14,8 @@ use Rattle.history.specs.Refused.{limit, first_broken}
 use Rattle.limits.specs.Limits.{numbers_of}
 use Rattle.trailer.specs.Trailer.{trailer_size, trailer_with}
 use Rattle.file.specs.declared.Writer.{Writer}
-use Rattle.file.specs.declared.Started.{Started}
-use Rattle.file.specs.declared.Started.TheVariants.{Refused as NotStarted, Ready}
+use Rattle.file.specs.Answers.{Started, Closed}
 use Rattle.file.specs.declared.Written.{Written}
-use Rattle.file.specs.declared.Closed.{Closed}
-use Rattle.file.specs.declared.Closed.TheVariants.{Refused as NotClosed, File}
 use Rattle.file.specs.Limits.{length_limit, start_limits, write_limits, bytes_limits, close_limits}
 
 abbrev pub writer_with : (lines offset count depth : ℕ) → Writer
@@ -37,16 +31,16 @@ view_of w = numbers_of w.lines w.count w.depth
 
 -- the area with these bytes at a place, where the check passes
 abbrev pub area_for : Check → (at : ℕ) → (bytes area : List ℕ) → List ℕ
-area_for Passed at bytes area = laid at bytes area
-area_for (Breaks x) at bytes area = area
+area_for (Ok tt) at bytes area = laid at bytes area
+area_for (Err x) at bytes area = area
 
 -- a start: the preamble goes to the area's start
 abbrev pub start_check : (area preamble : List ℕ) (lines : ℕ) → Check
 start_check area preamble lines = first_broken (start_limits (length area) (length preamble) lines)
 
 abbrev pub started_for : Check → Writer → Started
-started_for Passed w = Ready w
-started_for (Breaks x) w = NotStarted x
+started_for (Ok tt) w = Ok w
+started_for (Err x) w = Err x
 
 abbrev pub started_of : (area preamble : List ℕ) (lines : ℕ) → Started
 started_of area preamble lines = started_for (start_check area preamble lines) (writer_with lines (length preamble) 0 0)
@@ -59,8 +53,8 @@ abbrev pub writer_after : Writer → Event → Writer
 writer_after w e = writer_with w.lines w.offset (suc w.count) (depth_after e w.depth)
 
 abbrev pub written_for : Check → Writer → Event → Written
-written_for Passed w e = record { check = Passed; writer = writer_after w e }
-written_for (Breaks x) w e = record { check = Breaks x; writer = w }
+written_for (Ok tt) w e = record { check = (Ok tt); writer = writer_after w e }
+written_for (Err x) w e = record { check = Err x; writer = w }
 
 -- its record goes behind the last one
 abbrev pub record_laid : Check → Writer → Record → (area : List ℕ) → List ℕ
@@ -81,12 +75,12 @@ abbrev pub unread_check : Writer → Refusal → Check
 unread_check w x = first_broken (length_limit (records_end w + record_size) ∷ limit true x ∷ [])
 
 abbrev pub parsed_written_of : (area : List ℕ) → Writer → Parsed → Written
-parsed_written_of area w (Read r) = written_of area w r
-parsed_written_of area w (Unread x) = written_for (unread_check w x) w Fence
+parsed_written_of area w (Ok r) = written_of area w r
+parsed_written_of area w (Err x) = written_for (unread_check w x) w Fence
 
 abbrev pub area_parsed_written : (area : List ℕ) → Writer → Parsed → List ℕ
-area_parsed_written area w (Read r) = area_written area w r
-area_parsed_written area w (Unread x) = area
+area_parsed_written area w (Ok r) = area_written area w r
+area_parsed_written area w (Err x) = area
 
 -- the same for an event that comes as the bytes of a record
 abbrev pub bytes_check : (room : ℕ) → Writer → List ℕ → Check
@@ -103,8 +97,8 @@ abbrev pub close_check : (room : ℕ) → Writer → Check
 close_check room w = first_broken (close_limits room (records_end w) w.depth)
 
 abbrev pub closed_for : Check → ℕ → Closed
-closed_for Passed length = File length
-closed_for (Breaks x) length = NotClosed x
+closed_for (Ok tt) length = Ok length
+closed_for (Err x) length = Err x
 
 abbrev pub closed_of : (area : List ℕ) → Writer → Closed
 closed_of area w = closed_for (close_check (length area) w) (records_end w + trailer_size)

@@ -2,7 +2,7 @@
 // calls are in `writer`.
 #![tactic(auto)]
 
-use event::{Check, Refusal};
+use event::Refusal;
 
 // What a writer knows of its file: the window's lines, where the first record stands, how many records there are, and how many
 // transactions are open.
@@ -14,23 +14,9 @@ pub struct Writer {
     pub depth: u16,
 }
 
-// A start. A refused one hands over no writer.
-#[derive(Clone, Copy)]
-pub enum Started {
-    Refused(Refusal),
-    Ready(Writer),
-}
-
 // An event given: what the limits say, and the writer to go on with.
 #[derive(Clone, Copy)]
 pub struct Written {
-    pub check: Check,
+    pub check: Result<(), Refusal>,
     pub writer: Writer,
-}
-
-// A closing: the file's length, from the area's start.
-#[derive(Clone, Copy)]
-pub enum Closed {
-    Refused(Refusal),
-    File(usize),
 }

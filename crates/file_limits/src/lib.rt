@@ -8,7 +8,7 @@ ghost use Rattle.trailer.specs.Trailer.{trailer_size, most_bytes};
 ghost use Rattle.file.specs.Limits.{room_limit, start_limits};
 ghost use Rattle.file.specs.Write.{records_end, write_check};
 
-use event::{Check, Event, Refusal};
+use event::{Event, Refusal};
 use file::Writer;
 
 // Behind the last record.
@@ -26,25 +26,25 @@ fn is_too_long(end: usize) -> bool
 }
 
 // The limit 15: whether the area has room for bytes that end at this place.
-pub fn check_room(room: usize, end: usize) -> Check
+pub fn check_room(room: usize, end: usize) -> Result<(), Refusal>
     ensures { result ≡ first_broken (room_limit room end ∷ []) }
 {
     if room < end {
-        Check::Refused(Refusal::FileAreaTooShort)
+        Err(Refusal::FileAreaTooShort)
     } else {
-        Check::Passed
+        Ok(())
     }
 }
 
 // The limits on a start: 4, 2, 15.
-pub fn check_start(room: usize, preamble: usize, lines: u16) -> Check
+pub fn check_start(room: usize, preamble: usize, lines: u16) -> Result<(), Refusal>
     ensures { result ≡ first_broken (start_limits room preamble lines) }
 {
     match window::check_lines(lines) {
-        Check::Refused(x) => Check::Refused(x),
-        Check::Passed => {
+        Err(x) => Err(x),
+        Ok(()) => {
             if is_too_long(preamble) {
-                return Check::Refused(Refusal::TraceTooLong);
+                return Err(Refusal::TraceTooLong);
             }
             check_room(room, preamble)
         }
@@ -59,14 +59,14 @@ pub fn is_full(w: Writer) -> bool
 }
 
 // The limits on an event: 2; 9, 18, 10 to 12; 15.
-pub fn check_write(room: usize, w: Writer, e: Event) -> Check
+pub fn check_write(room: usize, w: Writer, e: Event) -> Result<(), Refusal>
     ensures { result ≡ write_check room w e }
 {
     if is_full(w) {
-        return Check::Refused(Refusal::TraceTooLong);
+        return Err(Refusal::TraceTooLong);
     }
     match limits::check_event(w.lines, w.count as u16, w.depth, e) {
-        Check::Refused(x) => Check::Refused(x),
-        Check::Passed => check_room(room, records_end(w) + 12),
+        Err(x) => Err(x),
+        Ok(()) => check_room(room, records_end(w) + 12),
     }
 }

@@ -1,4 +1,5 @@
 -- The answers to a whole list of given events meet the one claim over it, and no other answers do.
+use Rattle.std.specs.Prelude.{Ok, Err}
 use mathlib.Core.Path.{◌≡◌, refl, sym, ap, ap₂, ◌∙◌}
 use mathlib.Core.Bool.{Bool, true, false, cond}
 use mathlib.Core.List.{List, [], ◌∷◌, map}
@@ -9,9 +10,7 @@ use borrow.Author.Tests.{ltb-true}
 use Rattle.event.specs.declared.Record.{Record}
 use Rattle.event.specs.declared.Finding.{Finding}
 use Rattle.event.specs.declared.Refusal.{Refusal}
-use Rattle.event.specs.declared.Check.{Check}
-use Rattle.event.specs.declared.Check.TheVariants.{Passed, Refused as Breaks}
-use Rattle.event.specs.declared.Answer.TheVariants.{Refused, Found}
+use Rattle.event.specs.Answers.{Check}
 use Rattle.event.specs.Numbers.{number_of}
 use Rattle.event.specs.Reply.{Reply, finding_values, answer_reply}
 use Rattle.window.specs.Window.{window_bytes}
@@ -30,32 +29,32 @@ use Rattle.history.proofs.Meaning.Refusals.{Applies, any_range_lem, accepted_non
 
 -- what the check of limits says: the first number that applies, or that none does
 pub data Checked (limits : List Limit) : Check → Type 0 where
-  none : NoneBroken limits → Checked limits Passed
-  first : {x : Refusal} → First limits x → Checked limits (Breaks x)
+  none : NoneBroken limits → Checked limits (Ok tt)
+  first : {x : Refusal} → First limits x → Checked limits (Err x)
 
 pub checked : (limits : List Limit) → Checked limits (first_broken limits)
 checked [] = Checked.none NoneBroken.nil
 checked (x ∷ xs) = go x.broken refl (first_broken xs) (checked xs)
   where
-    go : (b : Bool) → x.broken ≡ b → (c : Check) → Checked xs c → Checked (x ∷ xs) (cond b (Breaks x.number) c)
+    go : (b : Bool) → x.broken ≡ b → (c : Check) → Checked xs c → Checked (x ∷ xs) (cond b (Err x.number) c)
     go true e c k = Checked.first (First.here e)
-    go false e Passed (Checked.none k) = Checked.none (NoneBroken.cons e k)
-    go false e (Breaks y) (Checked.first k) = Checked.first (First.later e k)
+    go false e (Ok tt) (Checked.none k) = Checked.none (NoneBroken.cons e k)
+    go false e (Err y) (Checked.first k) = Checked.first (First.later e k)
 
 -- so the answer to an event is the number that applies first, or its finding
-pub first_broken_lem : {limits : List Limit} {x : Refusal} → First limits x → first_broken limits ≡ Breaks x
+pub first_broken_lem : {limits : List Limit} {x : Refusal} → First limits x → first_broken limits ≡ Err x
 first_broken_lem (First.here e) = rw e
 first_broken_lem (First.later e k) = rw e (first_broken_lem k)
 
-pub none_broken : {limits : List Limit} → NoneBroken limits → first_broken limits ≡ Passed
+pub none_broken : {limits : List Limit} → NoneBroken limits → first_broken limits ≡ Ok tt
 none_broken NoneBroken.nil = refl
 none_broken (NoneBroken.cons e k) = rw e (none_broken k)
 
-pub answer_refused : (lines : ℕ) (h : History) (r : Record) {x : Refusal} → RefusedBy lines h r x → answer_of lines h r ≡ Refused x
+pub answer_refused : (lines : ℕ) (h : History) (r : Record) {x : Refusal} → RefusedBy lines h r x → answer_of lines h r ≡ Err x
 unfolding answer_of refusal_by
 answer_refused lines h r k = ap (λ (c : Check). answer_for c (finding_by (of_history lines h) r.event)) (first_broken_lem k)
 
-pub answer_found : (lines : ℕ) (h : History) (r : Record) → Accepted lines h r → answer_of lines h r ≡ Found (finding_by (of_history lines h) r.event)
+pub answer_found : (lines : ℕ) (h : History) (r : Record) → Accepted lines h r → answer_of lines h r ≡ Ok (finding_by (of_history lines h) r.event)
 unfolding answer_of refusal_by
 answer_found lines h r k = ap (λ (c : Check). answer_for c (finding_by (of_history lines h) r.event)) (none_broken k)
 
@@ -100,8 +99,8 @@ claim_from lines h (r ∷ given) inside =
         (Inside lines h → ClaimRun lines h given (map answer_reply (answers lines h given))) →
         (Inside lines (r ∷ h) → ClaimRun lines (r ∷ h) given (map answer_reply (answers lines (r ∷ h) given))) →
         ClaimRun lines h (r ∷ given) (map answer_reply (answer_for c f ∷ answers lines (after (answer_for c f) r h) given))
-    go Passed (Checked.none k) refused taken = ClaimRun.takes f k (finding_claim lines h inside r) (taken (inside_taken lines h r inside k))
-    go (Breaks x) (Checked.first k) refused taken = ClaimRun.refuses k (refused inside)
+    go (Ok tt) (Checked.none k) refused taken = ClaimRun.takes f k (finding_claim lines h inside r) (taken (inside_taken lines h r inside k))
+    go (Err x) (Checked.first k) refused taken = ClaimRun.refuses k (refused inside)
 
 -- the answers to every list of given events, from the run of every asked line count, meet the claim
 pub whole_claim : (asked : ℕ) (given : List Record) → ClaimRun (window_of asked) [] given (map answer_reply (answers (window_of asked) [] given))

@@ -1,4 +1,5 @@
 -- Findings and refusals after two neighbours changed places.
+use Rattle.std.specs.Prelude.{Ok, Err}
 use mathlib.Core.Path.{◌≡◌, refl, sym, ap, ap₂, ◌∙◌, fun_ext}
 use mathlib.Core.Bool.{Bool, true, false, cond, not, ◌&&◌, ◌||◌}
 use mathlib.Core.List.{◌∷◌}
@@ -12,8 +13,7 @@ use Rattle.event.specs.declared.Event.TheVariants.{Store, WriteBack, Fence, Begi
 use Rattle.event.specs.declared.Record.{Record}
 use Rattle.event.specs.declared.Finding.{Finding}
 use Rattle.event.specs.declared.Finding.TheVariants.{None, Unlogged, Clean, WrittenTwice, LoggedTwice, Empty}
-use Rattle.event.specs.declared.Check.{Check}
-use Rattle.event.specs.declared.Check.TheVariants.{Passed, Refused as Breaks}
+use Rattle.event.specs.Answers.{Check}
 use Rattle.window.specs.Window.{window_bytes, line_of, line_start}
 use Rattle.ranges.specs.Ranges.{line_count, touches}
 use Rattle.event.proofs.Bools.{contradiction, fails, and_right, or_left}
@@ -136,8 +136,8 @@ module _ (a b : Record) (older : History) (m : MaySwap a.event b.event) {h k : H
   answer_moved r = ap₂ answer_for (refusal_same r.event) (finding_moved r.event) ∙ go (refusal_by before r.event) (finding_by before r.event)
     where
       go : (c : Check) (f : Finding) → answer_for c (renamed ex f) ≡ renamed_answer ex (answer_for c f)
-      go Passed f = refl
-      go (Breaks x) f = refl
+      go (Ok tt) f = refl
+      go (Err x) f = refl
 
 -- a search by two tests that agree on what it looks at
 found_same : (p q : ℕ → Bool) (f g : ℕ → Finding) (x n : ℕ) → ((z : ℕ) → x ≤ z → z < x + n → (p z ≡ q z) × (f z ≡ g z)) → found_or (lowest p x n) None f ≡ found_or (lowest q x n) None g

@@ -1,4 +1,5 @@
 -- Neighbours given in either order: the answers to the whole list, the accepted events and the count of findings.
+use Rattle.std.specs.Prelude.{Ok, Err}
 use mathlib.Core.Path.{◌≡◌, refl, sym, ap, ap₂, ◌∙◌, subst}
 use mathlib.Core.Bool.{Bool, false, cond, ◌&&◌}
 use mathlib.Core.List.{List, [], ◌∷◌, ◌++◌, map}
@@ -10,8 +11,7 @@ use Rattle.event.specs.declared.Record.{Record}
 use Rattle.event.specs.declared.Finding.{Finding}
 use Rattle.event.specs.declared.Finding.TheVariants.{None, Holds, Lost, OutOfOrder, Unlogged, Clean, WrittenTwice, LoggedTwice, Empty}
 use Rattle.event.specs.declared.Refusal.{Refusal}
-use Rattle.event.specs.declared.Answer.{Answer}
-use Rattle.event.specs.declared.Answer.TheVariants.{Refused, Found}
+use Rattle.event.specs.Answers.{Answer}
 use Rattle.event.specs.Numbers.{is_none}
 use Rattle.history.specs.History.{History, begins}
 use Rattle.history.specs.Transaction.{depth}
@@ -58,7 +58,7 @@ module _ (lines : ℕ) (h k : History) (long : length k ≡ length h) (deep : de
   unfolding answers
   refusals_same AllRefused.nil = refl
   refusals_same (AllRefused.cons {r = r} {x = x} n others) =
-      rw (answer_refused lines h r n, answer_refused lines k r (refused_same r n)) (ap (λ (l : List Answer). Refused x ∷ l) (refusals_same others))
+      rw (answer_refused lines h r n, answer_refused lines k r (refused_same r n)) (ap (λ (l : List Answer). Err x ∷ l) (refusals_same others))
 
 -- the answers to every list of later events, refused ones among them, and the accepted part
 pub record Follows (lines : ℕ) (a b : Record) (older : History) (given : List Record) (h k : History) : Type 0 where
@@ -79,8 +79,8 @@ module _ (lines : ℕ) (a b : Record) (older : History) (m : MaySwap a.event b.e
       go : (f : Answer) → Follows lines a b older given h k → Follows lines a b older given (r ∷ h) (r ∷ k) →
           ((renamed_answer ex f ∷ answers lines (after (renamed_answer ex f) r k) given) ≡ (renamed_answer ex f ∷ map (renamed_answer ex) (answers lines (after f r h) given))) ×
           Swapped a b older (accepted lines (after f r h) given) (accepted lines (after (renamed_answer ex f) r k) given)
-      go (Refused x) kept taken = (ap (λ (l : List Answer). Refused x ∷ l) kept.same, kept.swapped)
-      go (Found f) kept taken = (ap (λ (l : List Answer). Found (renamed ex f) ∷ l) taken.same, taken.swapped)
+      go (Err x) kept taken = (ap (λ (l : List Answer). Err x ∷ l) kept.same, kept.swapped)
+      go (Ok f) kept taken = (ap (λ (l : List Answer). Ok (renamed ex f) ∷ l) taken.same, taken.swapped)
 
 -- a store or a write-back breaks no limit on transactions
 quietly : (lines : ℕ) (h : History) (r : Record) → Quiet r.event → NoneBroken (drop 3 (limits_by (of_history lines h) r.event))
@@ -117,7 +117,7 @@ module _ {lines : ℕ} {h : History} {a : Record} {between : List Record} {b : R
   found_b = finding_by (of_history lines h) b.event
 
   pub in_turn_lem : (later : List Record) →
-      answers lines h (a ∷ (between ++ (b ∷ later))) ≡ Found found_a ∷ (answers lines (a ∷ h) between ++ (Found found_b ∷ answers lines (b ∷ a ∷ h) later))
+      answers lines h (a ∷ (between ++ (b ∷ later))) ≡ Ok found_a ∷ (answers lines (a ∷ h) between ++ (Ok found_b ∷ answers lines (b ∷ a ∷ h) later))
   unfolding answers
   in_turn_lem later =
       rw (
@@ -151,8 +151,8 @@ reported_append [] more = omega arith
 reported_append (f ∷ found) more = omega (arith, reported_append found more)
 
 counts_same : (x : ℕ → ℕ) (f : Answer) → counts (renamed_answer x f) ≡ counts f
-counts_same x (Refused number) = refl
-counts_same x (Found f) = ap (λ (c : Bool). cond c 0 1) (go f)
+counts_same x (Err number) = refl
+counts_same x (Ok f) = ap (λ (c : Bool). cond c 0 1) (go f)
   where
     go : (f : Finding) → is_none (renamed x f) ≡ is_none f
     go None = refl
@@ -183,7 +183,7 @@ module _ (lines : ℕ) (before : List Record) {a : Record} {between : List Recor
   older = accepted lines [] before
 
   abbrev found : Record → Answer
-  found r = Found (finding_by (of_history lines older) r.event)
+  found r = Ok (finding_by (of_history lines older) r.event)
 
   abbrev refusals : List Answer
   refusals = answers lines (a ∷ older) between

@@ -1,12 +1,9 @@
 -- Events given one after another, refused ones among them: the accepted part, the answers, and the claim over the whole list.
-use Rattle.std.specs.Prelude.{cond, List, [], ◌∷◌, ℕ, ◌+◌}
+use Rattle.std.specs.Prelude.{cond, List, [], ◌∷◌, ℕ, ◌+◌, Ok, Err}
 use Rattle.event.specs.declared.Record.{Record}
 use Rattle.event.specs.declared.Finding.{Finding}
 use Rattle.event.specs.declared.Refusal.{Refusal}
-use Rattle.event.specs.declared.Check.{Check}
-use Rattle.event.specs.declared.Check.TheVariants.{Passed, Refused as Breaks}
-use Rattle.event.specs.declared.Answer.{Answer}
-use Rattle.event.specs.declared.Answer.TheVariants.{Refused, Found}
+use Rattle.event.specs.Answers.{Check, Answer}
 use Rattle.event.specs.Numbers.{is_none, number_of}
 use Rattle.event.specs.Reply.{Reply, finding_values}
 use Rattle.window.specs.Window.{lines_check}
@@ -18,8 +15,8 @@ use Rattle.history.specs.Claim.{Claim}
 
 -- the lines of the run that a fresh window asked with this line count hands over: one line where it is refused
 abbrev pub window_for : Check → ℕ → ℕ
-window_for Passed asked = asked
-window_for (Breaks x) asked = 1
+window_for (Ok tt) asked = asked
+window_for (Err x) asked = 1
 
 -- the lines of the window
 abbrev pub window_of : ℕ → ℕ
@@ -27,8 +24,8 @@ window_of asked = window_for (lines_check asked) asked
 
 -- the refusal, or the finding where the check of the limits passed
 abbrev pub answer_for : Check → Finding → Answer
-answer_for Passed f = Found f
-answer_for (Breaks x) f = Refused x
+answer_for (Ok tt) f = Ok f
+answer_for (Err x) f = Err x
 
 -- after the history the event is refused by this number, or by none
 abbrev pub RefusedBy : ℕ → History → Record → Refusal → Type 0
@@ -43,8 +40,8 @@ answer_of lines h r = answer_for (refusal_by (of_history lines h) r.event) (find
 
 -- the history goes on with an event that has a finding, and stays as it was at a refused one
 abbrev pub after : Answer → Record → History → History
-after (Refused x) r h = h
-after (Found f) r h = r ∷ h
+after (Err x) r h = h
+after (Ok f) r h = r ∷ h
 
 -- the accepted part of the events given after the history
 unfoldable pub accepted : ℕ → History → List Record → History
@@ -58,8 +55,8 @@ answers lines h (r ∷ given) = answer_of lines h r ∷ answers lines (after (an
 
 -- one for a finding other than none
 abbrev pub counts : Answer → ℕ
-counts (Refused x) = 0
-counts (Found f) = cond (is_none f) 0 1
+counts (Err x) = 0
+counts (Ok f) = cond (is_none f) 0 1
 
 -- how many findings other than none there are among the answers
 unfoldable pub reported : List Answer → ℕ

@@ -1,10 +1,9 @@
 -- What refuses an event, read off the window's lines, the events taken and the transactions open: the first number that applies.
-use Rattle.std.specs.Prelude.{◌≡◌, Bool, true, false, cond, ◌&&◌, ◌||◌, List, [], ◌∷◌, map, ℕ, leb, eqb}
+use Rattle.std.specs.Prelude.{◌≡◌, Bool, true, false, cond, ◌&&◌, ◌||◌, List, [], ◌∷◌, map, ℕ, leb, eqb, Ok, Err}
 use Rattle.event.specs.declared.Event.{Event}
 use Rattle.event.specs.declared.Refusal.{Refusal}
 use Rattle.event.specs.declared.Refusal.TheVariants.{PastWindow, SharedByte, EventsExhausted, NoTransaction, TooDeep}
-use Rattle.event.specs.declared.Check.{Check}
-use Rattle.event.specs.declared.Check.TheVariants.{Passed, Refused}
+use Rattle.event.specs.Answers.{Check}
 use Rattle.event.specs.Numbers.{number_of}
 use Rattle.ranges.specs.Ranges.{is_past, ranges_of, any_range, ranges_share}
 use Rattle.history.specs.History.{begins, logs, ends}
@@ -56,8 +55,8 @@ pub data NoneBroken : List Limit → Type 0 where
 
 -- the first that is broken
 abbrev pub first_broken : List Limit → Check
-first_broken [] = Passed
-first_broken (x ∷ xs) = cond x.broken (Refused x.number) (first_broken xs)
+first_broken [] = Ok tt
+first_broken (x ∷ xs) = cond x.broken (Err x.number) (first_broken xs)
 
 -- what refuses an event, if anything does
 unfoldable pub refusal_by : View → Event → Check

@@ -1,6 +1,6 @@
 -- The starred small runs of document 01, and that of document 02's request 2, in two lines. Sites are 0. Since request 8 the one with
 -- 0/8 before 0/8 is refused by 18.
-use Rattle.std.specs.Prelude.{List, [], ◌∷◌, map, ℕ}
+use Rattle.std.specs.Prelude.{List, [], ◌∷◌, map, ℕ, Ok, Err}
 use Rattle.event.specs.declared.Range.{Range}
 use Rattle.event.specs.declared.Event.{Event}
 use Rattle.event.specs.declared.Event.TheVariants.{Store, WriteBack, Fence, Begin, End, Persisted, Ordered}
@@ -8,8 +8,7 @@ use Rattle.event.specs.declared.Record.{Record}
 use Rattle.event.specs.declared.Finding.{Finding}
 use Rattle.event.specs.declared.Finding.TheVariants.{None, Holds, Lost, OutOfOrder, Unlogged, Clean}
 use Rattle.event.specs.declared.Refusal.TheVariants.{SharedByte}
-use Rattle.event.specs.declared.Answer.{Answer}
-use Rattle.event.specs.declared.Answer.TheVariants.{Refused, Found}
+use Rattle.event.specs.Answers.{Answer}
 
 -- a small run: the events given, and the answer to each
 pub record SmallRun : Type 0 where
@@ -18,7 +17,7 @@ pub record SmallRun : Type 0 where
 
 -- one whose events all have findings
 abbrev run : List Event → List Finding → SmallRun
-run given findings = record { given = given; answers = map Found findings }
+run given findings = record { given = given; answers = map Ok findings }
 
 -- address/length
 infix 50 ◌/·◌
@@ -39,7 +38,7 @@ small_runs =
     run (Store (0 /· 8) ∷ Store (8 /· 8) ∷ Ordered (0 /· 8) (8 /· 8) ∷ []) (None ∷ None ∷ Holds ∷ []) ∷
     run (Store (0 /· 8) ∷ Store (8 /· 8) ∷ Ordered (8 /· 8) (0 /· 8) ∷ []) (None ∷ None ∷ OutOfOrder 8 0 1 2 ∷ []) ∷
     run (Store (60 /· 8) ∷ Ordered (60 /· 4) (64 /· 4) ∷ []) (None ∷ OutOfOrder 60 64 1 1 ∷ []) ∷
-    record { given = Store (0 /· 8) ∷ Ordered (0 /· 8) (0 /· 8) ∷ []; answers = Found None ∷ Refused SharedByte ∷ [] } ∷
+    record { given = Store (0 /· 8) ∷ Ordered (0 /· 8) (0 /· 8) ∷ []; answers = Ok None ∷ Err SharedByte ∷ [] } ∷
     run (Begin ∷ Store (0 /· 8) ∷ End ∷ []) (None ∷ Unlogged 0 ∷ Lost 0 3 2 ∷ []) ∷
     run (Store (0 /· 16) ∷ Ordered (0 /· 8) (8 /· 8) ∷ []) (None ∷ OutOfOrder 0 8 1 1 ∷ []) ∷  -- torn
     []

@@ -1,5 +1,5 @@
 -- Request 13: neighbours that may change places, and what names the other number where they do.
-use Rattle.std.specs.Prelude.{◌≡◌, true, cond, ◌||◌, List, [], ◌∷◌, ◌++◌, ℕ, suc, eqb}
+use Rattle.std.specs.Prelude.{◌≡◌, true, cond, ◌||◌, List, [], ◌∷◌, ◌++◌, ℕ, suc, eqb, Ok, Err}
 use Rattle.event.specs.declared.Event.{Event}
 use Rattle.event.specs.declared.Record.{Record}
 use Rattle.event.specs.declared.Refusal.{Refusal}
@@ -7,8 +7,7 @@ use Rattle.event.specs.declared.Finding.{Finding}
 use Rattle.event.specs.declared.Finding.TheVariants.{None, Holds, Lost, OutOfOrder, Unlogged, Clean, WrittenTwice, LoggedTwice, Empty}
 use Rattle.event.specs.declared.NamedInterval.{NamedInterval}
 use Rattle.event.specs.declared.NamedInterval.TheVariants.{None as NoneNamed, Open as OpenNamed, Closed as ClosedNamed}
-use Rattle.event.specs.declared.Answer.{Answer}
-use Rattle.event.specs.declared.Answer.TheVariants.{Refused, Found}
+use Rattle.event.specs.Answers.{Answer}
 use Rattle.history.specs.History.{History, stores, writes_back, touches_line}
 use Rattle.history.specs.Given.{RefusedBy, Accepted}
 
@@ -53,8 +52,8 @@ renamed x Empty = Empty
 
 -- what an event gets: a refusal names no event
 abbrev pub renamed_answer : (ℕ → ℕ) → Answer → Answer
-renamed_answer x (Refused number) = Refused number
-renamed_answer x (Found f) = Found (renamed x f)
+renamed_answer x (Err number) = Err number
+renamed_answer x (Ok f) = Ok (renamed x f)
 
 -- an interval's answer with its events renamed; both epochs are as they were
 abbrev pub renamed_interval : (ℕ → ℕ) → NamedInterval → NamedInterval

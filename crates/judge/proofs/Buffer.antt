@@ -8,7 +8,7 @@ use lib.Dec.{leb}
 use lib.ListN.{length, replicate, length-replicate}
 use borrow.Author.Tests.{leb-true, le-leb, lt-leb}
 use Rattle.codec.specs.Codec.{finding_size}
-use Rattle.verdict.specs.declared.Verdict.{Verdict}
+use Rattle.verdict.specs.Answers.{Verdict}
 use Rattle.pass.specs.Pass.{all_judged}
 use Rattle.judge.specs.Ends.{long_buffer, buffer_for, verdict_by, area_by}
 

@@ -1,4 +1,5 @@
 -- The verdict and the area from where the records of a trace lead are those of the trace.
+use Rattle.std.specs.Prelude.{Ok, Err}
 use mathlib.Core.Path.{◌≡◌, refl, sym, ap, ◌∙◌}
 use mathlib.Core.List.{List, ◌++◌}
 use Prim.Native.Nat.{ℕ, ◌*◌, ◌≤◌}
@@ -6,9 +7,7 @@ use native.Mathlib.Omega.{arith}
 use lib.ListN.{length, take, drop}
 use Rattle.codec.specs.Codec.{finding_size}
 use Rattle.trailer.specs.declared.Trailer.{Trailer}
-use Rattle.trailer.specs.declared.Opened.TheVariants.{Known}
-use Rattle.trace.specs.declared.TraceCheck.{TraceCheck}
-use Rattle.trace.specs.declared.TraceCheck.TheVariants.{Refused as RefusedAt, Passed}
+use Rattle.trace.specs.Answers.{TraceCheck}
 use Rattle.trailer.specs.Trailer.{trailer_of, opened_of}
 use Rattle.trace.specs.Records.{record_part, lines_in, records_in}
 use Rattle.trailer.proofs.Written.{opened}
@@ -18,10 +17,11 @@ use Rattle.verdict.proofs.Outcome.{rejected, totalled, area_holds, all_counted}
 use Rattle.pass.specs.Pass.{Result, all_judged}
 use Rattle.pass.proofs.Whole.{Judged, judged_check, judged}
 use Rattle.judge.specs.Ends.{verdict_from, verdict_by, area_from, area_by}
+use Rattle.event.specs.Answers.{refused_at}
 
 module _ (s area : List ℕ) where
   -- what the code finds of the records, in the part of the trace where they are, with a buffer that has room for their findings
-  module _ {t : Trailer} (known : opened_of s ≡ Known t) (fits : finding_size * t.count ≤ length area)
+  module _ {t : Trailer} (known : opened_of s ≡ Ok t) (fits : finding_size * t.count ≤ length area)
       {part : List ℕ} (is : part ≡ record_part t.offset s) (buffer : List ℕ) (room : finding_size * t.count ≤ length buffer) where
     -- where the records of the part lead
     abbrev end : Result
@@ -45,7 +45,7 @@ module _ (s area : List ℕ) where
     size = ap (λ (t : Trailer). finding_size * t.count) (sym (opened s known).trailer)
 
     -- where nothing does, they leave the totals and the findings of the trace's events
-    leaves : trace_check s area ≡ Passed → Judged (lines_in s) (records_in s) in_trace.stage
+    leaves : trace_check s area ≡ (Ok tt) → Judged (lines_in s) (records_in s) in_trace.stage
     leaves k =
         let inside : finding_size * length (records_in s) ≤ length buffer = omega (arith, room, size, all_counted s) in
         judged (lines_in s) (window_fits s area known) (records_in s) buffer (sym (records_decide s area known fits) ∙ k) inside
@@ -53,8 +53,8 @@ module _ (s area : List ℕ) where
     -- the verdict and the area are then those of the trace, for either outcome of the check
     decided : (c : TraceCheck) → trace_check s area ≡ c →
         (verdict_from c in_trace.stage ≡ verdict_of s area) × (area_from c (area_size s) in_trace.stage.buffer area ≡ area_after s area)
-    decided (RefusedAt x n) k = rejected s area k
-    decided Passed k =
+    decided (Err r) k = rejected s area k
+    decided (Ok tt) k =
         let j = leaves k in (
           rw (j.events, j.fences, j.findings) (sym (totalled s area k)),
           ap (λ (front : List ℕ). front ++ drop (area_size s) area) (ap (λ (n : ℕ). take (finding_size * n) in_trace.stage.buffer) (sym (all_counted s)) ∙ j.buffer) ∙

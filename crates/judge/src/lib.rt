@@ -7,10 +7,8 @@ ghost use Rattle.verdict.specs.Verdict.{verdict_of, area_after};
 ghost use Rattle.pass.specs.Pass.{all_judged};
 ghost use Rattle.judge.specs.Ends.{long_buffer, buffer_for, verdict_by, area_by};
 
-use event::Refusal;
-use trace::TraceCheck;
-use trailer::{Opened, opening};
-use verdict::Verdict;
+use event::{Refusal, Totals, TraceRefusal};
+use trailer::opening;
 
 // So many bytes of the buffer, copied to the front of the area.
 fn copy(area: &mut [u8], buffer: &[u8], n: usize)
@@ -25,7 +23,7 @@ fn copy(area: &mut [u8], buffer: &[u8], n: usize)
 }
 
 // The records judged into a buffer, and the findings then copied to the area, where nothing is refused.
-fn judge_by(records: &[u8], count: u32, lines: u16, buffer: &mut [u8], area: &mut [u8]) -> Verdict
+fn judge_by(records: &[u8], count: u32, lines: u16, buffer: &mut [u8], area: &mut [u8]) -> Result<Totals, TraceRefusal>
     requires { (finding_size * count ≤ length buffer.old) × (finding_size * count ≤ length area.old) }
     ensures value { result ≡ verdict_by (all_judged count lines records.now buffer.old) }
     ensures buffer_after { buffer.new ≡ (all_judged count lines records.now buffer.old).stage.buffer }
@@ -35,20 +33,20 @@ fn judge_by(records: &[u8], count: u32, lines: u16, buffer: &mut [u8], area: &mu
     let j = pass::judge_records(records, count, lines, buffer);
     let check = j.check;
     match check {
-        TraceCheck::Refused { refusal, record } => Verdict::Refused { refusal, record },
-        TraceCheck::Passed => {
+        Err(TraceRefusal { refusal, at: record }) => Err(TraceRefusal { refusal, at: record }),
+        Ok(()) => {
             copy(area, buffer, 12 * (count as usize));
-            Verdict::Accepted {
+            Ok(Totals {
                 events: j.counts.events,
                 fences: j.counts.fences,
                 findings: j.counts.findings,
-            }
+            })
         }
     }
 }
 
 // The records judged into a buffer of their own. Most traces are short, and a short buffer is ready sooner.
-fn judge_part(records: &[u8], count: u32, lines: u16, area: &mut [u8]) -> Verdict
+fn judge_part(records: &[u8], count: u32, lines: u16, area: &mut [u8]) -> Result<Totals, TraceRefusal>
     requires { (finding_size * count ≤ long_buffer) × (finding_size * count ≤ length area.old) }
     ensures value { result ≡ verdict_by (all_judged count lines records.now (buffer_for count)) }
     ensures area_after { area.new ≡
@@ -63,21 +61,15 @@ fn judge_part(records: &[u8], count: u32, lines: u16, area: &mut [u8]) -> Verdic
 }
 
 // The findings stay in a buffer until the last record has been taken, so that a refused trace leaves the area as it was.
-pub fn judge(trace: &[u8], area: &mut [u8]) -> Verdict
+pub fn judge(trace: &[u8], area: &mut [u8]) -> Result<Totals, TraceRefusal>
     ensures value { result ≡ verdict_of trace.now area.old }
     ensures area_after { area.new ≡ area_after trace.now area.old }
 {
     match opening::open(trace) {
-        Opened::Refused(x) => Verdict::Refused {
-            refusal: x,
-            record: 0,
-        },
-        Opened::Known(t) => {
+        Err(x) => Err(TraceRefusal { refusal: x, at: 0 }),
+        Ok(t) => {
             if area.len() < 12 * (t.count as usize) {
-                return Verdict::Refused {
-                    refusal: Refusal::AreaTooShort,
-                    record: 0,
-                };
+                return Err(TraceRefusal { refusal: Refusal::AreaTooShort, at: 0 });
             }
             judge_part(trace::part(trace, t.offset), t.count, t.lines, area)
         }

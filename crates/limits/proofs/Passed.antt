@@ -1,4 +1,5 @@
 -- What holds of an event that no limit refuses.
+use Rattle.std.specs.Prelude.{Ok, Err}
 use mathlib.Core.Path.{◌≡◌}
 use mathlib.Core.Bool.{false, ◌&&◌}
 use mathlib.Core.List.{List}
@@ -8,8 +9,7 @@ use lib.Dec.{eqb, leb}
 use borrow.Author.Tests.{eqb-false, leb-false}
 use Rattle.event.specs.declared.Event.{Event}
 use Rattle.event.specs.declared.Event.TheVariants.{Begin, End}
-use Rattle.event.specs.declared.Check.{Check}
-use Rattle.event.specs.declared.Check.TheVariants.{Passed, Refused}
+use Rattle.event.specs.Answers.{Check}
 use Rattle.ranges.specs.Ranges.{is_past, ranges_of, any_range}
 use Rattle.history.specs.History.{begins}
 use Rattle.history.specs.Refused.{Limit, limits_by, first_broken, NoneBroken, most_depth, asks_open, refusal_by}
@@ -17,12 +17,12 @@ use Rattle.history.proofs.Given.{Checked, checked}
 use Rattle.limits.specs.Limits.{numbers_of}
 
 -- no limit is broken where the check passes
-pub passed_unbroken : (limits : List Limit) → first_broken limits ≡ Passed → NoneBroken limits
+pub passed_unbroken : (limits : List Limit) → first_broken limits ≡ (Ok tt) → NoneBroken limits
 passed_unbroken limits e = go (first_broken limits) (checked limits) e
   where
-    go : (c : Check) → Checked limits c → c ≡ Passed → NoneBroken limits
-    go Passed (Checked.none k) f = k
-    go (Refused x) (Checked.first k) f = let z : ◌≡◌ {A = ℕ} 0 1 = cc in absurd (omega arith)
+    go : (c : Check) → Checked limits c → c ≡ (Ok tt) → NoneBroken limits
+    go (Ok tt) (Checked.none k) f = k
+    go (Err x) (Checked.first k) f = let z : ◌≡◌ {A = ℕ} 0 1 = cc in absurd (omega arith)
 
 -- what the limits say of an event that passes
 pub record Passes (lines events depth : ℕ) (e : Event) : Type 0 where
@@ -32,7 +32,7 @@ pub record Passes (lines events depth : ℕ) (e : Event) : Type 0 where
   pub nests : begins e && leb most_depth depth ≡ false
 
 module _ (lines events depth : ℕ) where
-  pub passed : (e : Event) → refusal_by (numbers_of lines events depth) e ≡ Passed → Passes lines events depth e
+  pub passed : (e : Event) → refusal_by (numbers_of lines events depth) e ≡ (Ok tt) → Passes lines events depth e
   unfolding refusal_by
   passed e k = go (passed_unbroken (limits_by (numbers_of lines events depth) e) k)
     where
@@ -41,9 +41,9 @@ module _ (lines events depth : ℕ) where
           record { room = leb-false 65535 events b; ranges = a; inside = c; nests = d }
 
   -- a begin that passes is at a depth below 8
-  pub begin_below : refusal_by (numbers_of lines events depth) Begin ≡ Passed → depth < 8
+  pub begin_below : refusal_by (numbers_of lines events depth) Begin ≡ (Ok tt) → depth < 8
   begin_below p = leb-false 8 depth (passed Begin p).nests
 
   -- an end that passes has a transaction open
-  pub end_inside : refusal_by (numbers_of lines events depth) End ≡ Passed → 1 ≤ depth
+  pub end_inside : refusal_by (numbers_of lines events depth) End ≡ (Ok tt) → 1 ≤ depth
   end_inside p = let z : depth ≡ 0 → ⊥ = eqb-false depth 0 (passed End p).inside in omega arith

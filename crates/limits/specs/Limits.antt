@@ -1,7 +1,7 @@
 -- The limits 9, 18 and 10 to 12 ask for three numbers of a run: the window's lines, the events taken and the transactions open.
 use Rattle.std.specs.Prelude.{false, ℕ, drop}
 use Rattle.event.specs.declared.Event.{Event}
-use Rattle.event.specs.declared.Check.{Check}
+use Rattle.event.specs.Answers.{Check}
 use Rattle.history.specs.View.{View}
 use Rattle.history.specs.Refused.{limits_by, first_broken}
 

@@ -1,4 +1,5 @@
 -- The findings area of an accepted trace: the lines that are read off it are those of the trace's events.
+use Rattle.std.specs.Prelude.{Ok, Err}
 use mathlib.Core.Path.{◌≡◌, refl, sym, ap, ap₂, ◌∙◌}
 use mathlib.Core.List.{List, [], ◌∷◌, ◌++◌, append_assoc}
 use Prim.Native.Nat.{ℕ, suc, ◌+◌, ◌*◌, ◌≤◌}
@@ -9,10 +10,7 @@ use lib.Seq.{get_or-append-add}
 use borrow.Author.Tests.{not-false, eqb-true, ltb-false}
 use Rattle.event.specs.declared.Record.{Record}
 use Rattle.event.specs.declared.Finding.{Finding}
-use Rattle.event.specs.declared.Check.TheVariants.{Passed as Fits}
-use Rattle.event.specs.declared.Answer.TheVariants.{Found}
-use Rattle.event.specs.declared.Parsed.{Parsed}
-use Rattle.event.specs.declared.Parsed.TheVariants.{Read, Refused as Unread}
+use Rattle.event.specs.Answers.{Parsed}
 use Rattle.event.specs.Numbers.{fields_of}
 use Rattle.codec.specs.Codec.{u16_at, finding_bytes, fields_at, finding_size}
 use Rattle.codec.proofs.Meaning.{u16_round_trip}
@@ -23,7 +21,6 @@ use Rattle.history.specs.Found.{finding_by}
 use Rattle.history.specs.Given.{answer_of, accepted, answers}
 use Rattle.limits.proofs.Passed.{passed_unbroken}
 use Rattle.trailer.specs.declared.Trailer.{Trailer}
-use Rattle.trace.specs.declared.TraceCheck.TheVariants.{Passed}
 use Rattle.window.specs.Window.{most_lines}
 use Rattle.trailer.specs.Trailer.{most_bytes, trailer_of, end_of}
 use Rattle.trailer.proofs.Lines.{window_lines, few_lines}
@@ -67,16 +64,16 @@ line_read before bytes f site rest e =
 pub data AllFound (lines : ℕ) : History → List Parsed → Type 0 where
   done : {h : History} → AllFound lines h []
   found : {h : History} {r : Record} {f : Finding} {rest : List Parsed} →
-      answer_of lines h r ≡ Found f → AllFound lines (r ∷ h) rest → AllFound lines h (Read r ∷ rest)
+      answer_of lines h r ≡ Ok f → AllFound lines (r ∷ h) rest → AllFound lines h (Ok r ∷ rest)
 
 -- those that are not refused are
-all_found : (lines n : ℕ) (h : History) (records : List Parsed) → check_from lines n h records ≡ Passed → AllFound lines h records
+all_found : (lines n : ℕ) (h : History) (records : List Parsed) → check_from lines n h records ≡ (Ok tt) → AllFound lines h records
 unfolding check_from answer_of
 all_found lines n h [] e = AllFound.done
-all_found lines n h (Unread x ∷ rest) e = let z : ◌≡◌ {A = ℕ} 0 1 = cc in absurd (omega arith)
-all_found lines n h (Read r ∷ rest) e =
+all_found lines n h (Err x ∷ rest) e = let z : ◌≡◌ {A = ℕ} 0 1 = cc in absurd (omega arith)
+all_found lines n h (Ok r ∷ rest) e =
     let passes = unless_passed (refusal_by (of_history lines h) r.event) n (check_from lines (suc n) (r ∷ h) rest) e in
-    let answer : answer_of lines h r ≡ Found (finding_by (of_history lines h) r.event) = rw passes.0 in
+    let answer : answer_of lines h r ≡ Ok (finding_by (of_history lines h) r.event) = rw passes.0 in
     AllFound.found answer (all_found lines (suc n) (r ∷ h) rest passes.1)
 
 -- so all their events are accepted
@@ -108,12 +105,12 @@ lines_read {lines} {h} (AllFound.found {r = r} {f = f} {rest = others} e rest) b
 few_events : (records : List Parsed) → length (events_of records) ≤ length records
 unfolding events_of
 few_events [] = omega arith
-few_events (Read r ∷ rest) = omega (arith, few_events rest)
-few_events (Unread x ∷ rest) = omega (arith, few_events rest)
+few_events (Ok r ∷ rest) = omega (arith, few_events rest)
+few_events (Err x ∷ rest) = omega (arith, few_events rest)
 
-module _ (trace area : List ℕ) (accepts : trace_check trace area ≡ Passed) where
+module _ (trace area : List ℕ) (accepts : trace_check trace area ≡ (Ok tt)) where
   -- no limit is broken, and no record is refused
-  both_pass : (first_broken (trace_limits trace area) ≡ Fits) × (check_all (lines_in trace) (records_in trace) ≡ Passed)
+  both_pass : (first_broken (trace_limits trace area) ≡ (Ok tt)) × (check_all (lines_in trace) (records_in trace) ≡ (Ok tt))
   both_pass = unless_passed (first_broken (trace_limits trace area)) 0 (check_all (lines_in trace) (records_in trace)) accepts
 
   -- every event has a finding

@@ -1,4 +1,5 @@
 -- What is printed, in plain words: for the whole run of document 01, for a trace that is refused, and as the number in the foot.
+use Rattle.std.specs.Prelude.{Ok, Err}
 use mathlib.Core.Path.{◌≡◌, refl}
 use mathlib.Core.List.{List, [], ◌∷◌, ◌++◌}
 use Prim.Native.Nat.{ℕ, suc, ◌≤◌}
@@ -11,8 +12,7 @@ use Rattle.event.specs.declared.Event.TheVariants.{Store, WriteBack, Fence, Pers
 use Rattle.event.specs.declared.Record.{Record}
 use Rattle.event.specs.declared.Finding.TheVariants.{None, Holds, Lost, OutOfOrder, Unlogged, Clean, WrittenTwice, LoggedTwice, Empty}
 use Rattle.event.specs.declared.Fields.{Fields}
-use Rattle.event.specs.declared.Answer.{Answer}
-use Rattle.event.specs.declared.Answer.TheVariants.{Refused as NoFinding, Found}
+use Rattle.event.specs.Answers.{Answer}
 use Rattle.event.specs.Numbers.{fields_of}
 use Rattle.history.specs.Count.{count, last, first}
 use Rattle.history.specs.History.{History, is}
@@ -81,16 +81,16 @@ columns_feeds event site f name =
 
 line_feeds : (event : ℕ) (r : Record) (a : Answer) → feeds (line_for event r a) ≡ counts a
 unfolding finding_line
-line_feeds event r (NoFinding x) = refl
-line_feeds event r (Found None) = refl
-line_feeds event r (Found Holds) = columns_feeds event r.site (fields_of Holds) refl
-line_feeds event r (Found (Lost a b c)) = columns_feeds event r.site (fields_of (Lost a b c)) refl
-line_feeds event r (Found (OutOfOrder a b c d)) = columns_feeds event r.site (fields_of (OutOfOrder a b c d)) refl
-line_feeds event r (Found (Unlogged a)) = columns_feeds event r.site (fields_of (Unlogged a)) refl
-line_feeds event r (Found (Clean a)) = columns_feeds event r.site (fields_of (Clean a)) refl
-line_feeds event r (Found (WrittenTwice a)) = columns_feeds event r.site (fields_of (WrittenTwice a)) refl
-line_feeds event r (Found (LoggedTwice a)) = columns_feeds event r.site (fields_of (LoggedTwice a)) refl
-line_feeds event r (Found Empty) = columns_feeds event r.site (fields_of Empty) refl
+line_feeds event r (Err x) = refl
+line_feeds event r (Ok None) = refl
+line_feeds event r (Ok Holds) = columns_feeds event r.site (fields_of Holds) refl
+line_feeds event r (Ok (Lost a b c)) = columns_feeds event r.site (fields_of (Lost a b c)) refl
+line_feeds event r (Ok (OutOfOrder a b c d)) = columns_feeds event r.site (fields_of (OutOfOrder a b c d)) refl
+line_feeds event r (Ok (Unlogged a)) = columns_feeds event r.site (fields_of (Unlogged a)) refl
+line_feeds event r (Ok (Clean a)) = columns_feeds event r.site (fields_of (Clean a)) refl
+line_feeds event r (Ok (WrittenTwice a)) = columns_feeds event r.site (fields_of (WrittenTwice a)) refl
+line_feeds event r (Ok (LoggedTwice a)) = columns_feeds event r.site (fields_of (LoggedTwice a)) refl
+line_feeds event r (Ok Empty) = columns_feeds event r.site (fields_of Empty) refl
 
 -- so the number in the foot is that of the finding lines
 pub foot_counts : (event lines : ℕ) (h : History) (given : List Record) →

@@ -1,4 +1,5 @@
 -- No report is longer than 436,856 bytes, whatever the trace and the area, so in that much room it is whole.
+use Rattle.std.specs.Prelude.{Ok, Err}
 use mathlib.Core.Path.{◌≡◌, refl}
 use mathlib.Core.Bool.{Bool, true, false, cond}
 use mathlib.Core.List.{List, [], ◌∷◌, ◌++◌}
@@ -7,12 +8,10 @@ use native.Mathlib.Omega.{arith}
 use lib.ListN.{length, length-append}
 use Rattle.event.specs.declared.Record.{Record}
 use Rattle.event.specs.declared.Fields.{Fields}
-use Rattle.event.specs.declared.Answer.{Answer}
-use Rattle.event.specs.declared.Answer.TheVariants.{Refused as NoFinding, Found}
+use Rattle.event.specs.Answers.{Answer, refused_at}
 use Rattle.event.specs.Numbers.{fields_of, number_of}
 use Rattle.history.specs.Given.{reported}
-use Rattle.trace.specs.declared.TraceCheck.{TraceCheck}
-use Rattle.trace.specs.declared.TraceCheck.TheVariants.{Passed, Refused}
+use Rattle.trace.specs.Answers.{TraceCheck}
 use Rattle.trace.specs.Records.{lines_in, events_in}
 use Rattle.verdict.specs.Verdict.{trace_check, history_of, answers_of, verdict_for, verdict_of, verdict_reply}
 use Rattle.text.specs.Text.{out, put}
@@ -54,8 +53,8 @@ lines_size : (event : ℕ) (given : List Record) (found : List Answer) → lengt
 unfolding finding_lines
 lines_size event [] found = omega arith
 lines_size event (r ∷ rest) [] = omega arith
-lines_size event (r ∷ rest) (NoFinding x ∷ found) = omega (arith, lines_size (suc event) rest found)
-lines_size event (r ∷ rest) (Found f ∷ found) =
+lines_size event (r ∷ rest) (Err x ∷ found) = omega (arith, lines_size (suc event) rest found)
+lines_size event (r ∷ rest) (Ok f ∷ found) =
     simp length-append (omega (arith, line_size event r.site (fields_of f), lines_size (suc event) rest found))
 
 -- head, at most 5,460 lines, and foot
@@ -70,14 +69,14 @@ unfolding report_of verdict_of
 report_size trace area = go (trace_check trace area) refl
   where
     go : (c : TraceCheck) → trace_check trace area ≡ c → length (report_for (verdict_reply (verdict_for c (history_of trace) (answers_of trace))) trace) ≤ longest_report
-    go Passed e =
+    go (Ok tt) e =
         let given = events_in trace in
         let found = answers_of trace in
         parts_size (head_line (length (history_of trace)) (lines_in trace)) (finding_lines 1 given found) (foot_line (reported found))
         (head_size (length (history_of trace)) (lines_in trace))
         (omega (arith, lines_size 1 given found, events_few trace area e))
         (foot_size (reported found))
-    go (Refused x n) e = omega (arith, refusal_size (number_of x) n)
+    go (Err r) e = omega (arith, refusal_size (number_of r.refusal) r.at)
 
 -- so where there is room for so many bytes, the whole report is put, and the bytes beyond do not change
 pub report_whole : (trace area d : List ℕ) {text : List ℕ} {n : ℕ} → longest_report ≤ length d → out text n ≡ put (report_of trace area) (out d 0) →

@@ -1,4 +1,5 @@
 -- The report of a trace, from what the judge answers and what it leaves in the area.
+use Rattle.std.specs.Prelude.{Ok, Err}
 use mathlib.Core.Path.{◌≡◌, refl, ◌∙◌}
 use mathlib.Core.List.{List, ◌++◌}
 use Prim.Native.Nat.{ℕ}
@@ -7,46 +8,45 @@ use lib.ListN.{length}
 use Rattle.event.specs.declared.Refusal.{Refusal}
 use Rattle.event.specs.Numbers.{number_of}
 use Rattle.history.specs.Given.{reported}
-use Rattle.trace.specs.declared.TraceCheck.{TraceCheck}
-use Rattle.trace.specs.declared.TraceCheck.TheVariants.{Passed, Refused as RefusedAt}
+use Rattle.trace.specs.Answers.{TraceCheck}
 use Rattle.trace.specs.Records.{lines_in, events_in}
-use Rattle.verdict.specs.declared.Verdict.TheVariants.{Refused, Accepted}
 use Rattle.verdict.specs.Verdict.{trace_check, history_of, answers_of, verdict_for, verdict_of, area_after}
 use Rattle.text.specs.Text.{Out, put}
 use Rattle.lines.specs.Lines.{head_line, foot_line, refusal_line}
 use Rattle.finding_lines.specs.Area.{lines_from}
 use Rattle.listing.specs.Report.{finding_lines, report_of}
 use Rattle.listing.proofs.Area.{area_lines}
+use Rattle.event.specs.Answers.{refused_at, totals}
 
 -- what the judge's totals are
 record Totals (trace area : List ℕ) (events findings : ℕ) : Type 0 where
-  passes : trace_check trace area ≡ Passed
+  passes : trace_check trace area ≡ Ok tt
   counted : events ≡ length (history_of trace)
   found : findings ≡ reported (answers_of trace)
 
 module _ (trace area : List ℕ) where
   -- of a refused trace only the refusal
-  refused_report : {x : Refusal} {n : ℕ} → verdict_of trace area ≡ Refused x n → report_of trace area ≡ refusal_line (number_of x) n
+  refused_report : {x : Refusal} {n : ℕ} → verdict_of trace area ≡ refused_at x n → report_of trace area ≡ refusal_line (number_of x) n
   unfolding report_of
   refused_report e = rw e
 
-  totals : {events fences findings : ℕ} → verdict_of trace area ≡ Accepted events fences findings → Totals trace area events findings
+  totals : {events fences findings : ℕ} → verdict_of trace area ≡ totals events fences findings → Totals trace area events findings
   unfolding verdict_of
   totals {events} {fences} {findings} e = go (trace_check trace area) refl e
     where
-      go : (c : TraceCheck) → trace_check trace area ≡ c → verdict_for c (history_of trace) (answers_of trace) ≡ Accepted events fences findings →
+      go : (c : TraceCheck) → trace_check trace area ≡ c → verdict_for c (history_of trace) (answers_of trace) ≡ totals events fences findings →
           Totals trace area events findings
-      go (RefusedAt y m) p k = let z : ◌≡◌ {A = ℕ} 0 1 = cc in absurd (omega arith)
-      go Passed p k = record { passes = p; counted = cc; found = cc }
+      go (Err r) p k = let z : ◌≡◌ {A = ℕ} 0 1 = cc in absurd (omega arith)
+      go (Ok tt) p k = record { passes = p; counted = cc; found = cc }
 
   -- the refusal is put
-  pub refusal_put : {x : Refusal} {n number : ℕ} (o : Out) {p : Out} → verdict_of trace area ≡ Refused x n → number ≡ number_of x →
+  pub refusal_put : {x : Refusal} {n number : ℕ} (o : Out) {p : Out} → verdict_of trace area ≡ refused_at x n → number ≡ number_of x →
       p ≡ put (refusal_line number n) o → p ≡ put (report_of trace area) o
   refusal_put o e k q = rw (refused_report e, ← k) q
 
   -- the listing is put, with the finding lines as they are read off the area
   pub listing_put : {events fences findings : ℕ} {next : List ℕ} (o : Out) {p : Out} →
-      verdict_of trace area ≡ Accepted events fences findings → next ≡ area_after trace area →
+      verdict_of trace area ≡ totals events fences findings → next ≡ area_after trace area →
       p ≡ put (head_line events (lines_in trace) ++ lines_from 0 events next ++ foot_line findings) o → p ≡ put (report_of trace area) o
   unfolding report_of
   listing_put {events} {next = next} o e a q =

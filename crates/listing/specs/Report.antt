@@ -1,8 +1,7 @@
 -- All that is printed for a trace: the listing of its events, or the refusal only.
-use Rattle.std.specs.Prelude.{List, [], ◌∷◌, ◌++◌, ℕ, suc, length}
+use Rattle.std.specs.Prelude.{List, [], ◌∷◌, ◌++◌, ℕ, suc, length, Ok, Err}
 use Rattle.event.specs.declared.Record.{Record}
-use Rattle.event.specs.declared.Answer.{Answer}
-use Rattle.event.specs.declared.Answer.TheVariants.{Refused as NoFinding, Found}
+use Rattle.event.specs.Answers.{Answer}
 use Rattle.event.specs.Numbers.{fields_of}
 use Rattle.event.specs.Reply.{Reply}
 use Rattle.history.specs.Given.{reported}
@@ -13,8 +12,8 @@ use Rattle.finding_lines.specs.Lines.{finding_line}
 
 -- the line of an event's finding
 abbrev pub line_for : ℕ → Record → Answer → List ℕ
-line_for event r (Found f) = finding_line event r.site (fields_of f)
-line_for event r (NoFinding x) = []
+line_for event r (Ok f) = finding_line event r.site (fields_of f)
+line_for event r (Err x) = []
 
 -- the lines of events, the first of which has this number
 unfoldable pub finding_lines : ℕ → List Record → List Answer → List ℕ

@@ -9,9 +9,8 @@ ghost use Rattle.lines.specs.Lines.{head_line, foot_line};
 ghost use Rattle.finding_lines.specs.Area.{lines_from};
 ghost use Rattle.listing.specs.Report.{report_of};
 
-use event::numbers;
+use event::{Totals, TraceRefusal, numbers};
 use trailer::opening;
-use verdict::Verdict;
 
 // No report is longer: a head of 41 bytes, 5,460 lines of 80 and a foot of 15, were all numbers of ten digits.
 pub const LONGEST: usize = 436856;
@@ -33,17 +32,17 @@ fn put_report(trace: &[u8], area: &mut [u8], text: &mut [u8]) -> usize
     ensures result_after { out text.new result ≡ put (report_of trace.now area.old) (out text.old 0) }
 {
     match judge::judge(trace, area) {
-        Verdict::Refused { refusal, record } => lines::refusal(
+        Err(TraceRefusal { refusal, at: record }) => lines::refusal(
             text,
             0,
             numbers::number(refusal),
             record,
         ),
-        Verdict::Accepted {
+        Ok(Totals {
             events,
             fences: _,
             findings,
-        } => put_listing(text, trace, area, events, findings),
+        }) => put_listing(text, trace, area, events, findings),
     }
 }
 

@@ -3,11 +3,11 @@ ghost use Rattle.std.specs.Prelude.{◌≡◌, min, length};
 ghost use Rattle.pages.specs.Paged.{paged_of};
 ghost use Rattle.page_runs.specs.Laying.{laid_out, written_of, is_layout, area_after_call};
 
-use pages::Paged;
+use pages::PageRefusal;
 use std::io::Write;
 
 // Lays out the findings in the page area, each byte of which is A5h before.
-fn lay_out(findings: &[u8], area: &mut [u8]) -> Paged
+fn lay_out(findings: &[u8], area: &mut [u8]) -> Result<u32, PageRefusal>
     ensures value { result ≡ paged_of findings.now (length area.old) }
     ensures area_after { area.new ≡ laid_out findings.now area.old }
 {
@@ -16,7 +16,7 @@ fn lay_out(findings: &[u8], area: &mut [u8]) -> Paged
 }
 
 // The line: the lengths of both areas, the answer, and the sum of the page area's bytes.
-fn print_line<W: Write>(out: &mut W, findings: &[u8], area: &[u8], p: Paged) {
+fn print_line<W: Write>(out: &mut W, findings: &[u8], area: &[u8], p: Result<u32, PageRefusal>) {
     call_lines::place(out, b"pages of ", findings.len());
     call_lines::place(out, b" bytes in ", area.len());
     call_lines::reply(out, replies::of_paged(p));
@@ -25,15 +25,15 @@ fn print_line<W: Write>(out: &mut W, findings: &[u8], area: &[u8], p: Paged) {
 }
 
 // How many bytes of the page area were written.
-fn written(area: &[u8], p: Paged) -> usize
+fn written(area: &[u8], p: Result<u32, PageRefusal>) -> usize
     ensures { result ≡ min (written_of p) (length area.now) }
 {
     match p {
-        Paged::Refused {
+        Err(PageRefusal {
             refusal: _,
             position: _,
-        } => 0,
-        Paged::Written { length } => {
+        }) => 0,
+        Ok(length) => {
             let n = length as usize;
             if n < area.len() { n } else { area.len() }
         }

@@ -1,13 +1,12 @@
 -- The findings of an area, checked one after another.
+use Rattle.std.specs.Prelude.{Ok, Err}
 use mathlib.Core.Path.{◌≡◌}
 use mathlib.Core.List.{List}
 use Prim.Native.Nat.{ℕ, suc, ◌+◌, ◌-◌, ◌≤◌, ◌<◌}
 use native.Mathlib.Omega.{arith}
 use Rattle.event.specs.declared.Refusal.{Refusal}
-use Rattle.event.specs.declared.Check.TheVariants.{Passed, Refused as Breaks}
 use Rattle.history.specs.Refused.{first_broken}
-use Rattle.pages.specs.declared.Paged.{Paged}
-use Rattle.pages.specs.declared.Paged.TheVariants.{Refused}
+use Rattle.pages.specs.Answers.{Paged, refused_finding}
 use Rattle.pages.specs.Limits.{damage_limits}
 use Rattle.pages.specs.Paged.{unless_broken, unless_damaged}
 
@@ -22,10 +21,10 @@ module _ (findings : List ℕ) (i count : ℕ) (rest : Paged) where
       rw (left, next)
 
   -- it is damaged, or not
-  pub one_damaged : {x : Refusal} → i < count → first_broken (damage_limits i findings) ≡ Breaks x → Refused x (i + 1) ≡ unless_damaged i (count - i) findings rest
+  pub one_damaged : {x : Refusal} → i < count → first_broken (damage_limits i findings) ≡ Err x → refused_finding x (i + 1) ≡ unless_damaged i (count - i) findings rest
   one_damaged k e = rw (damaged_next k, e)
 
-  pub not_damaged : i < count → first_broken (damage_limits i findings) ≡ Passed →
+  pub not_damaged : i < count → first_broken (damage_limits i findings) ≡ (Ok tt) →
       unless_damaged (i + 1) (count - (i + 1)) findings rest ≡ unless_damaged i (count - i) findings rest
   not_damaged k e = rw (damaged_next k, e)
 

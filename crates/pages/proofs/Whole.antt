@@ -1,4 +1,5 @@
 -- The answer to a findings area and a page area, from what the parts of the code answer.
+use Rattle.std.specs.Prelude.{Ok, Err}
 use mathlib.Core.Path.{◌≡◌, refl, sym, ap, ◌∙◌}
 use mathlib.Core.Bool.{Bool, true, false, not}
 use mathlib.Core.List.{List, [], ◌∷◌}
@@ -10,8 +11,7 @@ use lib.Seq.{take_all}
 use borrow.Author.Tests.{ltb-false, lt-ltb, le-ltb}
 use Rattle.event.specs.declared.Refusal.{Refusal}
 use Rattle.event.specs.declared.Refusal.TheVariants.{LengthDiffers, PageAreaTooShort}
-use Rattle.event.specs.declared.Check.{Check}
-use Rattle.event.specs.declared.Check.TheVariants.{Passed, Refused as Breaks}
+use Rattle.event.specs.Answers.{Check}
 use Rattle.event.proofs.Bools.{or_neither}
 use Rattle.history.specs.Refused.{limit, first_broken, most_events}
 use Rattle.codec.specs.Codec.{finding_size}
@@ -20,16 +20,15 @@ use Rattle.text.proofs.Filled.{filled}
 use Rattle.finding_lines.specs.Rows.{rows_from}
 use Rattle.page_layout.specs.Pages.{pages_from, page_count, findings_in, shown_in, pages_of}
 use Rattle.page_layout.proofs.Size.{pages_length}
-use Rattle.pages.specs.declared.Paged.{Paged}
-use Rattle.pages.specs.declared.Paged.TheVariants.{Refused, Written}
+use Rattle.pages.specs.Answers.{Paged, refused_finding}
 use Rattle.pages.specs.Limits.{bad_length, whole_limits, damage_limits}
 use Rattle.pages.specs.Paged.{unless_broken, unless_damaged, in_room, paged_of, page_area_after}
 
 -- pages in a page area that is too short, and in one that is not
-pub too_short : (room size : ℕ) → room < size → Refused PageAreaTooShort 0 ≡ in_room room size
+pub too_short : (room size : ℕ) → room < size → refused_finding PageAreaTooShort 0 ≡ in_room room size
 too_short room size k = rw (lt-ltb room size k)
 
-pub enough_room : (room size : ℕ) → size ≤ room → Written size ≡ in_room room size
+pub enough_room : (room size : ℕ) → size ≤ room → Ok size ≡ in_room room size
 enough_room room size k = rw (le-ltb room size k)
 
 -- an area that is not refused as a whole has at most 65,535 findings
@@ -39,7 +38,7 @@ few_findings findings e =
 
 module _ (findings : List ℕ) (bytes : (i : ℕ) → get_or findings i 0 < 256) (room : ℕ) {flag : Bool} (tested : flag ≡ bad_length findings) where
   -- 5
-  pub refused_whole : flag ≡ true → Refused LengthDiffers 0 ≡ paged_of findings room
+  pub refused_whole : flag ≡ true → refused_finding LengthDiffers 0 ≡ paged_of findings room
   unfolding paged_of
   refused_whole e = rw (← tested, e)
 
@@ -62,29 +61,29 @@ pub record IsWritten (findings : List ℕ) (room n : ℕ) : Type 0 where
   pub size : n ≡ length (pages_of findings)
   pub fits : length (pages_of findings) ≤ room
 
-unless_written : (c : Check) (position : ℕ) (rest : Paged) {n : ℕ} → unless_broken c position rest ≡ Written n → (c ≡ Passed) × (rest ≡ Written n)
-unless_written Passed position rest e = (refl, e)
-unless_written (Breaks x) position rest e = let z : ◌≡◌ {A = ℕ} 0 1 = cc in absurd (omega arith)
+unless_written : (c : Check) (position : ℕ) (rest : Paged) {n : ℕ} → unless_broken c position rest ≡ Ok n → (c ≡ (Ok tt)) × (rest ≡ Ok n)
+unless_written (Ok tt) position rest e = (refl, e)
+unless_written (Err x) position rest e = let z : ◌≡◌ {A = ℕ} 0 1 = cc in absurd (omega arith)
 
-undamaged_written : (before count : ℕ) (findings : List ℕ) (rest : Paged) {n : ℕ} → unless_damaged before count findings rest ≡ Written n → rest ≡ Written n
+undamaged_written : (before count : ℕ) (findings : List ℕ) (rest : Paged) {n : ℕ} → unless_damaged before count findings rest ≡ Ok n → rest ≡ Ok n
 unfolding unless_damaged
 undamaged_written before zero findings rest e = e
 undamaged_written before (suc count) findings rest e =
     undamaged_written (suc before) count findings rest
     (unless_written (first_broken (damage_limits before findings)) (suc before) (unless_damaged (suc before) count findings rest) e).1
 
-room_written : (room size : ℕ) {n : ℕ} → in_room room size ≡ Written n → (n ≡ size) × (size ≤ room)
+room_written : (room size : ℕ) {n : ℕ} → in_room room size ≡ Ok n → (n ≡ size) × (size ≤ room)
 room_written room size {n} e = go (ltb room size) refl
   where
     go : (b : Bool) → ltb room size ≡ b → (n ≡ size) × (size ≤ room)
-    go true t = let wrong : Refused PageAreaTooShort 0 ≡ Written n = rw t at e in let z : ◌≡◌ {A = ℕ} 0 1 = cc in absurd (omega arith)
-    go false t = let same : Written size ≡ Written n = rw t at e in (cc, ltb-false room size t)
+    go true t = let wrong : refused_finding PageAreaTooShort 0 ≡ Ok n = rw t at e in let z : ◌≡◌ {A = ℕ} 0 1 = cc in absurd (omega arith)
+    go false t = let same : Ok size ≡ Ok n = rw t at e in (cc, ltb-false room size t)
 
-passes : (b : Bool) (x : Refusal) → first_broken (limit b x ∷ []) ≡ Passed → b ≡ false
+passes : (b : Bool) (x : Refusal) → first_broken (limit b x ∷ []) ≡ (Ok tt) → b ≡ false
 passes true x e = let z : ◌≡◌ {A = ℕ} 0 1 = cc in absurd (omega arith)
 passes false x e = refl
 
-pub is_written : (findings : List ℕ) (room : ℕ) {n : ℕ} → paged_of findings room ≡ Written n → IsWritten findings room n
+pub is_written : (findings : List ℕ) (room : ℕ) {n : ℕ} → paged_of findings room ≡ Ok n → IsWritten findings room n
 unfolding paged_of
 is_written findings room e =
     let size = length (pages_of findings) in
@@ -94,12 +93,12 @@ is_written findings room e =
 
 -- a refusal leaves the page area as it was
 module _ (findings area : List ℕ) {answer : Paged} (answers : answer ≡ paged_of findings (length area)) where
-  pub area_kept : {x : Refusal} {position : ℕ} → answer ≡ Refused x position → area ≡ page_area_after findings area
+  pub area_kept : {x : Refusal} {position : ℕ} → answer ≡ refused_finding x position → area ≡ page_area_after findings area
   unfolding page_area_after
   area_kept e = rw (← answers, e)
 
   -- else the pages are at its start
-  pub area_written_lem : {size count shown pages next : ℕ} {after : List ℕ} → answer ≡ Written size → count ≡ findings_in findings % 65536 →
+  pub area_written_lem : {size count shown pages next : ℕ} {after : List ℕ} → answer ≡ Ok size → count ≡ findings_in findings % 65536 →
       shown ≡ length (rows_from 0 count findings) → pages ≡ page_count shown →
       out after next ≡ put (pages_from pages 1 pages (rows_from 0 count findings)) (out area 0) → after ≡ page_area_after findings area
   unfolding pages_of page_area_after

@@ -1,19 +1,17 @@
 -- What laying out a findings area answers, and what the page area then holds.
-use Rattle.std.specs.Prelude.{List, [], ◌∷◌, ◌++◌, ℕ, zero, suc, length, drop}
-use Rattle.event.specs.declared.Check.{Check}
-use Rattle.event.specs.declared.Check.TheVariants.{Passed, Refused as Breaks}
+use Rattle.std.specs.Prelude.{List, [], ◌∷◌, ◌++◌, ℕ, zero, suc, length, drop, Ok, Err}
+use Rattle.event.specs.Answers.{Check}
 use Rattle.event.specs.Numbers.{number_of}
 use Rattle.event.specs.Reply.{Reply}
 use Rattle.history.specs.Refused.{first_broken}
 use Rattle.page_layout.specs.Pages.{findings_in, pages_of}
-use Rattle.pages.specs.declared.Paged.{Paged}
-use Rattle.pages.specs.declared.Paged.TheVariants.{Refused, Written}
+use Rattle.pages.specs.Answers.{Paged, refused_finding}
 use Rattle.pages.specs.Limits.{whole_limits, damage_limits, room_limits}
 
 -- where a check passes, the rest decides; where it does not, the area is refused at this position
 abbrev pub unless_broken : Check → ℕ → Paged → Paged
-unless_broken Passed position rest = rest
-unless_broken (Breaks x) position rest = Refused x position
+unless_broken (Ok tt) position rest = rest
+unless_broken (Err x) position rest = refused_finding x position
 
 -- so many findings after the first ones: the first damaged one, by its position from 1; where none is, the rest decides
 unfoldable pub unless_damaged : (before count : ℕ) → List ℕ → Paged → Paged
@@ -23,7 +21,7 @@ unless_damaged before (suc count) findings rest =
 
 -- pages of so many bytes in a page area of so many
 abbrev pub in_room : (room size : ℕ) → Paged
-in_room room size = unless_broken (first_broken (room_limits room size)) 0 (Written size)
+in_room room size = unless_broken (first_broken (room_limits room size)) 0 (Ok size)
 
 -- 5 at 0, then 6 and 7 finding by finding, then 16 at 0; else the length
 unfoldable pub paged_of : List ℕ → (room : ℕ) → Paged
@@ -34,13 +32,13 @@ paged_of findings room =
 
 -- a refusal's number and its position, or the length written
 abbrev pub paged_reply : Paged → Reply
-paged_reply (Refused x position) = Reply.refused (number_of x) position
-paged_reply (Written length) = Reply.values (length ∷ [])
+paged_reply (Err r) = Reply.refused (number_of r.refusal) r.position
+paged_reply (Ok length) = Reply.values (length ∷ [])
 
 -- a refusal leaves the page area as it was; else it starts with the pages, and the bytes beyond do not change
 abbrev pub page_area_for : Paged → (findings area : List ℕ) → List ℕ
-page_area_for (Refused x position) findings area = area
-page_area_for (Written length) findings area = pages_of findings ++ drop length area
+page_area_for (Err r) findings area = area
+page_area_for (Ok length) findings area = pages_of findings ++ drop length area
 
 unfoldable pub page_area_after : (findings area : List ℕ) → List ℕ
 page_area_after findings area = page_area_for (paged_of findings (length area)) findings area

@@ -8,42 +8,42 @@ ghost use Rattle.page_layout.specs.Pages.{page_count, findings_in};
 ghost use Rattle.pages.specs.Limits.{bad_length, damage_limits};
 ghost use Rattle.pages.specs.Paged.{unless_damaged, in_room, paged_of, page_area_after};
 
-use event::{Check, Refusal};
+use event::Refusal;
 
-// A refusal with the position of the finding from 1, or 0 for the findings area as a whole and for the page area; or the length written.
+// A refusal, and the position of the finding that it is about, from 1, or 0 for the findings area as a whole and for the page area.
 #[derive(Clone, Copy)]
-pub enum Paged {
-    Refused { refusal: Refusal, position: u16 },
-    Written { length: u32 },
+pub struct PageRefusal {
+    pub refusal: Refusal,
+    pub position: u16,
 }
 
 // What is damaged in the finding that has so many before it, if anything is.
-fn damage(findings: &[u8], before: u16) -> Check
+fn damage(findings: &[u8], before: u16) -> Result<(), Refusal>
     ensures { result ≡ first_broken (damage_limits before findings.now) }
 {
     let place = 12 * (before as usize);
     if 8 < codec::byte_at(findings, place) {
-        return Check::Refused(Refusal::UnknownKind);
+        return Err(Refusal::UnknownKind);
     }
     if codec::byte_at(findings, place + 1) != 0 {
-        return Check::Refused(Refusal::FieldSet);
+        return Err(Refusal::FieldSet);
     }
-    Check::Passed
+    Ok(())
 }
 
 // The refusal of the first damaged finding of so many; the answer given, where none is damaged.
-fn unless_damaged(findings: &[u8], count: u16, answer: Paged) -> Paged
+fn unless_damaged(findings: &[u8], count: u16, answer: Result<u32, PageRefusal>) -> Result<u32, PageRefusal>
     ensures { result ≡ unless_damaged 0 count findings.now answer }
 {
     let mut i: u16 = 0;
     while i < count {
         match damage(findings, i) {
-            Check::Passed => {}
-            Check::Refused(refusal) => {
-                return Paged::Refused {
+            Ok(()) => {}
+            Err(refusal) => {
+                return Err(PageRefusal {
                     refusal,
                     position: i + 1,
-                }
+                })
             }
         }
         i += 1;
@@ -88,27 +88,27 @@ fn is_bad_length(findings: &[u8]) -> bool
 }
 
 // Pages of so many bytes in a page area of so many.
-fn in_room(room: usize, length: u32) -> Paged
+fn in_room(room: usize, length: u32) -> Result<u32, PageRefusal>
     ensures { result ≡ in_room room length }
 {
     if room < (length as usize) {
-        return Paged::Refused {
+        return Err(PageRefusal {
             refusal: Refusal::PageAreaTooShort,
             position: 0,
-        };
+        });
     }
-    Paged::Written { length }
+    Ok(length)
 }
 
 // What the pages of the area in so many bytes are refused by, or their length. Nothing is written.
-fn checked(findings: &[u8], room: usize) -> Paged
+fn checked(findings: &[u8], room: usize) -> Result<u32, PageRefusal>
     ensures { result ≡ paged_of findings.now room }
 {
     if is_bad_length(findings) {
-        return Paged::Refused {
+        return Err(PageRefusal {
             refusal: Refusal::LengthDiffers,
             position: 0,
-        };
+        });
     }
     let count = findings_in(findings);
     let length = length_of(count_shown(findings, count));
@@ -117,17 +117,17 @@ fn checked(findings: &[u8], room: usize) -> Paged
 
 // Lays out the findings of an area on pages, at the start of the page area. Answers the length written, or why the area is refused;
 // the page area is then as it was. Its bytes beyond the length do not change.
-pub fn pages(findings: &[u8], area: &mut [u8]) -> Paged
+pub fn pages(findings: &[u8], area: &mut [u8]) -> Result<u32, PageRefusal>
     ensures value { result ≡ paged_of findings.now (length area.old) }
     ensures area_after { area.new ≡ page_area_after findings.now area.old }
 {
     let answer = checked(findings, area.len());
     match answer {
-        Paged::Refused {
+        Err(PageRefusal {
             refusal: _,
             position: _,
-        } => {}
-        Paged::Written { length: _ } => {
+        }) => {}
+        Ok(_) => {
             let count = findings_in(findings);
             let shown = count_shown(findings, count);
             page_layout::put_pages(area, findings, count, page_layout::page_count(shown));

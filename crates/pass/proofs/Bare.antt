@@ -1,12 +1,10 @@
 -- Records given to a run without the tables that only a byte's answer goes by are checked alike, leave the same findings, and lead to the
 -- same run without them.
+use Rattle.std.specs.Prelude.{Ok, Err}
 use mathlib.Core.Path.{◌≡◌, refl, ap}
 use mathlib.Core.List.{List, [], ◌∷◌}
 use Prim.Native.Nat.{ℕ, suc, ◌+◌}
-use Rattle.event.specs.declared.Answer.{Answer}
-use Rattle.event.specs.declared.Answer.TheVariants.{Refused, Found}
-use Rattle.event.specs.declared.Parsed.{Parsed}
-use Rattle.event.specs.declared.Parsed.TheVariants.{Read, Refused as Unread}
+use Rattle.event.specs.Answers.{Answer, Parsed}
 use Rattle.codec.specs.Codec.{finding_size}
 use Rattle.events.specs.declared.Given.{Given}
 use Rattle.events.specs.Give.{bare}
@@ -23,18 +21,18 @@ bare_result e = result e.check (bare_of e.stage)
 
 -- one record
 same_answer : (p : Parsed) (s : Stage) → record_answer p (bare_of s) ≡ record_answer p s
-same_answer (Read r) s = ap (λ (g : Given). g.answer) (give_bare s.run r)
-same_answer (Unread x) s = refl
+same_answer (Ok r) s = ap (λ (g : Given). g.answer) (give_bare s.run r)
+same_answer (Err x) s = refl
 
 same_given : (p : Parsed) (at : ℕ) (s : Stage) → record_given p at (bare_of s) ≡ bare_of (record_given p at s)
-same_given (Read r) at s = ap (λ (g : Given). stage g.run (placed_for g.answer r.site at s.buffer)) (give_bare s.run r)
-same_given (Unread x) at s = refl
+same_given (Ok r) at s = ap (λ (g : Given). stage g.run (placed_for g.answer r.site at s.buffer)) (give_bare s.run r)
+same_given (Err x) at s = refl
 
 -- one record that got this answer, and where the others lead
 same_after : (a : Answer) (n : ℕ) (s : Stage) (others bare-others : Result) → bare-others ≡ bare_result others →
     after_answer a n (bare_of s) bare-others ≡ bare_result (after_answer a n s others)
-same_after (Refused x) n s others bare-others e = refl
-same_after (Found f) n s others bare-others e = e
+same_after (Err x) n s others bare-others e = refl
+same_after (Ok f) n s others bare-others e = e
 
 -- so a record, where the others lead alike
 same_more : (p : Parsed) (n at : ℕ) (s : Stage) (rest : Stage → Result) → ((s : Stage) → rest (bare_of s) ≡ bare_result (rest s)) →

@@ -7,7 +7,7 @@ use lib.ListN.{replicate}
 use Rattle.tables.specs.declared.Counts.{Counts}
 use Rattle.tables.specs.View.{run_of, no_counts}
 use Rattle.engine.specs.Call.{empty_run}
-use Rattle.trace.specs.declared.TraceCheck.{TraceCheck}
+use Rattle.trace.specs.Answers.{TraceCheck}
 use Rattle.record_step.specs.Step.{Stage, stage}
 use Rattle.trace.specs.Records.{records_of}
 use Rattle.events.specs.Give.{bare}

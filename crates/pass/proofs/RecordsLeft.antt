@@ -1,4 +1,5 @@
 -- The records of a trace that are left after some were given.
+use Rattle.std.specs.Prelude.{Ok, Err}
 use mathlib.Core.Path.{◌≡◌, sym, ◌∙◌}
 use mathlib.Core.List.{List, ◌∷◌}
 use Prim.Native.Nat.{ℕ, suc, ◌+◌, ◌-◌, ◌*◌, ◌≤◌, ◌<◌}
@@ -6,12 +7,9 @@ use native.Mathlib.Omega.{arith}
 use lib.ListN.{drop}
 use Rattle.event.specs.declared.Refusal.{Refusal}
 use Rattle.event.specs.declared.Finding.{Finding}
-use Rattle.event.specs.declared.Answer.{Answer}
-use Rattle.event.specs.declared.Answer.TheVariants.{Refused, Found}
-use Rattle.event.specs.declared.Parsed.{Parsed}
+use Rattle.event.specs.Answers.{Answer, Parsed, refused_at}
 use Rattle.codec.specs.Codec.{finding_size}
 use Rattle.records.specs.Record.{parsed, record_size}
-use Rattle.trace.specs.declared.TraceCheck.TheVariants.{Refused as RefusedAt}
 use Rattle.trace.specs.Records.{records_of}
 use Rattle.trace.proofs.RecordsNext.{records_next}
 use Rattle.record_step.specs.Step.{Stage, record_answer, record_given}
@@ -23,12 +21,12 @@ left_judged records count i s = records_judged (records_of (count - i) (drop (re
 
 -- one record given: where it is refused, all end there, and else they go on with the others
 first_refused : {all rest : List Parsed} {p : Parsed} {next : Stage} {answer : Answer} {x : Refusal} (n at : ℕ) (s : Stage) → all ≡ p ∷ rest →
-    answer ≡ record_answer p s → next ≡ record_given p at s → answer ≡ Refused x → result (RefusedAt x n) next ≡ records_judged all n at s
+    answer ≡ record_answer p s → next ≡ record_given p at s → answer ≡ Err x → result (refused_at x n) next ≡ records_judged all n at s
 unfolding records_judged
 first_refused n at s e a g r = rw (e, ← a, r, g)
 
 first_found : {all rest : List Parsed} {p : Parsed} {next : Stage} {answer : Answer} {f : Finding} (n at : ℕ) {m to : ℕ} (s : Stage) → all ≡ p ∷ rest →
-    answer ≡ record_answer p s → next ≡ record_given p at s → answer ≡ Found f → suc n ≡ m → at + finding_size ≡ to →
+    answer ≡ record_answer p s → next ≡ record_given p at s → answer ≡ Ok f → suc n ≡ m → at + finding_size ≡ to →
     records_judged rest m to next ≡ records_judged all n at s
 unfolding records_judged
 first_found n at s e a g r k l = rw (e, ← a, r, g, ← k, ← l)
@@ -40,10 +38,10 @@ module _ (records : List ℕ) (count i : ℕ) (s : Stage) (more : i < count) {p 
   first_left : records_of (count - i) (drop (record_size * i) records) ≡ p ∷ records_of (count - (i + 1)) (drop (record_size * (i + 1)) records)
   first_left = let left : count - i ≡ suc (count - (i + 1)) = omega arith in rw (left, read) (records_next (count - (i + 1)) i records)
 
-  pub refused_here : {x : Refusal} → answer ≡ Refused x → result (RefusedAt x (i + 1)) next ≡ left_judged records count i s
+  pub refused_here : {x : Refusal} → answer ≡ Err x → result (refused_at x (i + 1)) next ≡ left_judged records count i s
   refused_here r = first_refused {p = p} (i + 1) (finding_size * i) s first_left a given r
 
-  pub next_judged : {f : Finding} → answer ≡ Found f → left_judged records count (i + 1) next ≡ left_judged records count i s
+  pub next_judged : {f : Finding} → answer ≡ Ok f → left_judged records count (i + 1) next ≡ left_judged records count i s
   next_judged r = first_found {p = p} (i + 1) (finding_size * i) s first_left a given r (omega arith) (omega arith)
 
 -- after the last comes the closing

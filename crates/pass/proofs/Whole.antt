@@ -1,5 +1,6 @@
 -- The pass over the records of a trace ends with what their check says; where it passes, the totals are those of the trace's events, and
 -- the buffer holds their findings.
+use Rattle.std.specs.Prelude.{Ok, Err}
 use mathlib.Core.Path.{◌≡◌, refl, ap, ◌∙◌}
 use mathlib.Core.List.{List, [], ◌∷◌, ◌++◌}
 use Prim.Native.Nat.{ℕ, suc, ◌+◌, ◌*◌, ◌≤◌}
@@ -9,11 +10,7 @@ use lib.Seq.{paste-zero, take_at}
 use Rattle.event.specs.declared.Record.{Record}
 use Rattle.event.specs.declared.Finding.{Finding}
 use Rattle.event.specs.declared.Refusal.{Refusal}
-use Rattle.event.specs.declared.Check.{Check}
-use Rattle.event.specs.declared.Check.TheVariants.{Passed as Fits, Refused as Breaks}
-use Rattle.event.specs.declared.Answer.TheVariants.{Refused, Found}
-use Rattle.event.specs.declared.Parsed.{Parsed}
-use Rattle.event.specs.declared.Parsed.TheVariants.{Read, Refused as Unread}
+use Rattle.event.specs.Answers.{Check, Parsed}
 use Rattle.codec.specs.Placed.{placed}
 use Rattle.codec.proofs.Placed.{placed_length, both_placed}
 use Rattle.codec.specs.Codec.{finding_bytes, finding_size}
@@ -33,7 +30,6 @@ use Rattle.engine.proofs.OneEvent.{Follows, follows_next}
 use Rattle.engine.proofs.FreshWindow.{fresh_follows}
 use Rattle.engine.proofs.Answered.{Answered, answered}
 use Rattle.engine.proofs.Link.{same_view, tracks, findings_counted}
-use Rattle.trace.specs.declared.TraceCheck.TheVariants.{Passed}
 use Rattle.trace.specs.Records.{events_of}
 use Rattle.trace.specs.Checked.{check_from, check_all}
 use Rattle.verdict.specs.Verdict.{findings_bytes}
@@ -43,21 +39,21 @@ use Rattle.record_step.specs.Step.{Stage, stage, record_answer}
 use Rattle.pass.specs.Pass.{records_judged}
 
 -- the limits of an event that the run answers
-refused_check : (lines : ℕ) (h : History) (r : Record) {x : Refusal} → answer_of lines h r ≡ Refused x → refusal_by (of_history lines h) r.event ≡ Breaks x
+refused_check : (lines : ℕ) (h : History) (r : Record) {x : Refusal} → answer_of lines h r ≡ Err x → refusal_by (of_history lines h) r.event ≡ Err x
 unfolding answer_of
 refused_check lines h r {x} a = go (refusal_by (of_history lines h) r.event) a
   where
-    go : (c : Check) → answer_for c (finding_by (of_history lines h) r.event) ≡ Refused x → c ≡ Breaks x
-    go Fits k = let z : ◌≡◌ {A = ℕ} 0 1 = cc in absurd (omega arith)
-    go (Breaks y) k = cc
+    go : (c : Check) → answer_for c (finding_by (of_history lines h) r.event) ≡ Err x → c ≡ Err x
+    go (Ok tt) k = let z : ◌≡◌ {A = ℕ} 0 1 = cc in absurd (omega arith)
+    go (Err y) k = cc
 
-found_check : (lines : ℕ) (h : History) (r : Record) {f : Finding} → answer_of lines h r ≡ Found f → refusal_by (of_history lines h) r.event ≡ Fits
+found_check : (lines : ℕ) (h : History) (r : Record) {f : Finding} → answer_of lines h r ≡ Ok f → refusal_by (of_history lines h) r.event ≡ Ok tt
 unfolding answer_of
 found_check lines h r {f} a = go (refusal_by (of_history lines h) r.event) a
   where
-    go : (c : Check) → answer_for c (finding_by (of_history lines h) r.event) ≡ Found f → c ≡ Fits
-    go Fits k = refl
-    go (Breaks y) k = let z : ◌≡◌ {A = ℕ} 0 1 = cc in absurd (omega arith)
+    go : (c : Check) → answer_for c (finding_by (of_history lines h) r.event) ≡ Ok f → c ≡ Ok tt
+    go (Ok tt) k = refl
+    go (Err y) k = let z : ◌≡◌ {A = ℕ} 0 1 = cc in absurd (omega arith)
 
 -- where the pass over records ends that no limit refuses: the run after their events, and their findings in the buffer from a place on
 abbrev whole : (lines : ℕ) (h : History) (run : Run) (records : List Parsed) (at : ℕ) (d : List ℕ) → Stage
@@ -76,10 +72,10 @@ module _ (lines : ℕ) (h : History) (run : Run) (r : Record) (f : Finding) (res
   found = placed at (finding_bytes f r.site) d
 
   -- it ends where the pass over the others ends
-  one_more_lem : answer_of lines h r ≡ Found f → give_of run r ≡ record { answer = Found f; run = next } →
-      at + finding_size * length (Read r ∷ rest) ≤ length d →
+  one_more_lem : answer_of lines h r ≡ Ok f → give_of run r ≡ record { answer = Ok f; run = next } →
+      at + finding_size * length (Ok r ∷ rest) ≤ length d →
       (records_judged rest (suc n) (at + finding_size) (stage next found)).stage ≡ whole lines (r ∷ h) next rest (at + finding_size) found →
-      (records_judged (Read r ∷ rest) n at (stage run d)).stage ≡ whole lines h run (Read r ∷ rest) at d
+      (records_judged (Ok r ∷ rest) n at (stage run d)).stage ≡ whole lines h run (Ok r ∷ rest) at d
   unfolding records_judged run_after events_of answers findings_bytes
   one_more_lem a g inside e =
       let bytes = finding_bytes f r.site in
@@ -94,8 +90,8 @@ same_check : (lines : ℕ) → lines ≤ most_lines → (n : ℕ) (h : History) 
     (records_judged records n at (stage run d)).check ≡ check_from lines n h records
 unfolding records_judged check_from
 same_check lines m n h run [] at d k = rw k.tracks.nesting
-same_check lines m n h run (Unread x ∷ rest) at d k = refl
-same_check lines m n h run (Read r ∷ rest) at d k =
+same_check lines m n h run (Err x ∷ rest) at d k = refl
+same_check lines m n h run (Ok r ∷ rest) at d k =
     go (answered lines h run r view) (λ next e j. same_check lines m (suc n) (r ∷ h) next rest (at + finding_size) e j)
   where
     view : of_run run ≡ of_history lines h
@@ -104,31 +100,31 @@ same_check lines m n h run (Read r ∷ rest) at d k =
     go : Answered lines h run r →
         ((next : Run) (e : List ℕ) → Follows lines (r ∷ h) next →
         (records_judged rest (suc n) (at + finding_size) (stage next e)).check ≡ check_from lines (suc n) (r ∷ h) rest) →
-        (records_judged (Read r ∷ rest) n at (stage run d)).check ≡ check_from lines n h (Read r ∷ rest)
+        (records_judged (Ok r ∷ rest) n at (stage run d)).check ≡ check_from lines n h (Ok r ∷ rest)
     go (Answered.refused {x = x} a g) more = rw (record_answer, g, refused_check lines h r a)
     go (Answered.found {f = f} t a g) more =
         rw (record_answer, g, found_check lines h r a) (more (next_of run r.event f) (placed at (finding_bytes f r.site) d) (follows_next lines m h run k view r t f))
 
 -- the pass over records that no limit refuses ends there, by induction over them
 passes : (lines : ℕ) → lines ≤ most_lines → (n : ℕ) (h : History) (run : Run) (records : List Parsed) (at : ℕ) (d : List ℕ) → Follows lines h run →
-    check_from lines n h records ≡ Passed → at + finding_size * length records ≤ length d →
+    check_from lines n h records ≡ (Ok tt) → at + finding_size * length records ≤ length d →
     (records_judged records n at (stage run d)).stage ≡ whole lines h run records at d
 unfolding records_judged run_after events_of answers findings_bytes check_from
 passes lines m n h run [] at d k check inside = ap (stage run) (paste-zero d at [])
-passes lines m n h run (Unread x ∷ rest) at d k check inside = let z : ◌≡◌ {A = ℕ} 0 1 = cc in absurd (omega arith)
-passes lines m n h run (Read r ∷ rest) at d k check inside =
+passes lines m n h run (Err x ∷ rest) at d k check inside = let z : ◌≡◌ {A = ℕ} 0 1 = cc in absurd (omega arith)
+passes lines m n h run (Ok r ∷ rest) at d k check inside =
     go (answered lines h run r view) (λ next e j l. passes lines m (suc n) (r ∷ h) next rest (at + finding_size) e j taken.1 (omega arith))
   where
     view : of_run run ≡ of_history lines h
     view = same_view m k.tracks
 
-    taken : (refusal_by (of_history lines h) r.event ≡ Fits) × (check_from lines (suc n) (r ∷ h) rest ≡ Passed)
+    taken : (refusal_by (of_history lines h) r.event ≡ (Ok tt)) × (check_from lines (suc n) (r ∷ h) rest ≡ (Ok tt))
     taken = unless_passed (refusal_by (of_history lines h) r.event) n (check_from lines (suc n) (r ∷ h) rest) check
 
     go : Answered lines h run r →
         ((next : Run) (e : List ℕ) → Follows lines (r ∷ h) next → length e ≡ length d →
         (records_judged rest (suc n) (at + finding_size) (stage next e)).stage ≡ whole lines (r ∷ h) next rest (at + finding_size) e) →
-        (records_judged (Read r ∷ rest) n at (stage run d)).stage ≡ whole lines h run (Read r ∷ rest) at d
+        (records_judged (Ok r ∷ rest) n at (stage run d)).stage ≡ whole lines h run (Ok r ∷ rest) at d
     go (Answered.refused {x = x} a g) more =
         let c = refused_check lines h r a in let z : ◌≡◌ {A = ℕ} 0 1 = cc in absurd (omega arith)
     go (Answered.found {f = f} t a g) more =
@@ -138,23 +134,23 @@ passes lines m n h run (Read r ∷ rest) at d k check inside =
 
 -- and with any buffer it ends in the run after their events, by induction over them
 passes_run : (lines : ℕ) → lines ≤ most_lines → (n : ℕ) (h : History) (run : Run) (records : List Parsed) (at : ℕ) (d : List ℕ) → Follows lines h run →
-    check_from lines n h records ≡ Passed → (records_judged records n at (stage run d)).stage.run ≡ run_after run (events_of records)
+    check_from lines n h records ≡ (Ok tt) → (records_judged records n at (stage run d)).stage.run ≡ run_after run (events_of records)
 unfolding records_judged run_after events_of check_from
 passes_run lines m n h run [] at d k check = refl
-passes_run lines m n h run (Unread x ∷ rest) at d k check = let z : ◌≡◌ {A = ℕ} 0 1 = cc in absurd (omega arith)
-passes_run lines m n h run (Read r ∷ rest) at d k check =
+passes_run lines m n h run (Err x ∷ rest) at d k check = let z : ◌≡◌ {A = ℕ} 0 1 = cc in absurd (omega arith)
+passes_run lines m n h run (Ok r ∷ rest) at d k check =
     go (answered lines h run r view) (λ next e j. passes_run lines m (suc n) (r ∷ h) next rest (at + finding_size) e j taken.1)
   where
     view : of_run run ≡ of_history lines h
     view = same_view m k.tracks
 
-    taken : (refusal_by (of_history lines h) r.event ≡ Fits) × (check_from lines (suc n) (r ∷ h) rest ≡ Passed)
+    taken : (refusal_by (of_history lines h) r.event ≡ (Ok tt)) × (check_from lines (suc n) (r ∷ h) rest ≡ (Ok tt))
     taken = unless_passed (refusal_by (of_history lines h) r.event) n (check_from lines (suc n) (r ∷ h) rest) check
 
     go : Answered lines h run r →
         ((next : Run) (e : List ℕ) → Follows lines (r ∷ h) next →
         (records_judged rest (suc n) (at + finding_size) (stage next e)).stage.run ≡ run_after next (events_of rest)) →
-        (records_judged (Read r ∷ rest) n at (stage run d)).stage.run ≡ run_after run (events_of (Read r ∷ rest))
+        (records_judged (Ok r ∷ rest) n at (stage run d)).stage.run ≡ run_after run (events_of (Ok r ∷ rest))
     go (Answered.refused {x = x} a g) more =
         let c = refused_check lines h r a in let z : ◌≡◌ {A = ℕ} 0 1 = cc in absurd (omega arith)
     go (Answered.found {f = f} t a g) more =
@@ -174,7 +170,7 @@ module _ (lines : ℕ) (m : lines ≤ most_lines) (records : List Parsed) (buffe
   judged_check = same_check lines m 1 [] (empty_run lines) records 0 buffer (fresh_follows lines)
 
   -- the totals and the findings
-  pub judged : check_all lines records ≡ Passed → finding_size * length records ≤ length buffer →
+  pub judged : check_all lines records ≡ (Ok tt) → finding_size * length records ≤ length buffer →
       Judged lines records (records_judged records 1 0 (stage (empty_run lines) buffer)).stage
   judged check inside =
       let e = passes lines m 1 [] (empty_run lines) records 0 buffer (fresh_follows lines) check (omega arith) in
@@ -188,6 +184,6 @@ module _ (lines : ℕ) (m : lines ≤ most_lines) (records : List Parsed) (buffe
       }
 
   -- the run
-  pub judged_run : check_all lines records ≡ Passed →
+  pub judged_run : check_all lines records ≡ (Ok tt) →
       (records_judged records 1 0 (stage (empty_run lines) buffer)).stage.run ≡ run_after (empty_run lines) (events_of records)
   judged_run check = passes_run lines m 1 [] (empty_run lines) records 0 buffer (fresh_follows lines) check

@@ -1,14 +1,11 @@
 -- The records given one after another to a run, with their findings put into a buffer, as the code goes over them: up to the first that
 -- is refused, and then the closing.
-use Rattle.std.specs.Prelude.{cond, List, [], ◌∷◌, ℕ, suc, ◌+◌, eqb}
+use Rattle.std.specs.Prelude.{cond, List, [], ◌∷◌, ℕ, suc, ◌+◌, eqb, Ok, Err}
 use Rattle.event.specs.declared.Refusal.TheVariants.{TransactionOpen}
-use Rattle.event.specs.declared.Answer.{Answer}
-use Rattle.event.specs.declared.Answer.TheVariants.{Refused, Found}
-use Rattle.event.specs.declared.Parsed.{Parsed}
+use Rattle.event.specs.Answers.{Answer, Parsed, refused_at}
 use Rattle.codec.specs.Codec.{finding_size}
 use Rattle.engine.specs.Call.{empty_run}
-use Rattle.trace.specs.declared.TraceCheck.{TraceCheck}
-use Rattle.trace.specs.declared.TraceCheck.TheVariants.{Passed, Refused as RefusedAt}
+use Rattle.trace.specs.Answers.{TraceCheck}
 use Rattle.trace.specs.Records.{records_of}
 use Rattle.record_step.specs.Step.{Stage, stage, record_answer, record_given}
 
@@ -22,12 +19,12 @@ result check stage = record { check = check; stage = stage }
 
 -- the closing: 13 where a transaction is open
 abbrev pub closing : Stage → TraceCheck
-closing s = cond (eqb s.run.counts.depth 0) Passed (RefusedAt TransactionOpen 0)
+closing s = cond (eqb s.run.counts.depth 0) (Ok tt) (refused_at TransactionOpen 0)
 
 -- a record with this number that got this answer: it is refused, or the others are given
 abbrev pub after_answer : Answer → ℕ → Stage → Result → Result
-after_answer (Refused x) n s others = result (RefusedAt x n) s
-after_answer (Found f) n s others = others
+after_answer (Err x) n s others = result (refused_at x n) s
+after_answer (Ok f) n s others = others
 
 -- the records from number n on, the first finding at a place
 unfoldable pub records_judged : List Parsed → (n at : ℕ) → Stage → Result

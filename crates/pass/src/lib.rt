@@ -1,33 +1,30 @@
 // The records of a trace, given one after another to tables that the caller lends, or that stand here; their findings go into a buffer.
 #![tactic(auto)]
 
-ghost use Rattle.std.specs.Prelude.{◌≡◌, cond, eqb};
+ghost use Rattle.std.specs.Prelude.{◌≡◌, cond, eqb, Ok};
 ghost use Rattle.tables.specs.View.{run_of};
 ghost use Rattle.record_step.specs.Step.{stage};
 ghost use Rattle.pass.specs.Pass.{records_given, all_judged};
+ghost use Rattle.event.specs.Answers.{refused_at};
 
-use event::{Answer, Refusal};
+use event::{Refusal, TraceRefusal};
 use tables::Counts;
-use trace::TraceCheck;
 
 // What the records lead to: whether one of them is refused, or the closing, and the numbers of the run then.
 #[derive(Clone, Copy)]
 pub struct Judged {
-    pub check: TraceCheck,
+    pub check: Result<(), TraceRefusal>,
     pub counts: Counts,
 }
 
 // The closing: 13 where a transaction is open.
-fn close(depth: u16) -> TraceCheck
-    ensures { result ≡ cond (eqb depth 0) TraceCheck.Passed (TraceCheck.Refused Refusal.TransactionOpen 0) }
+fn close(depth: u16) -> Result<(), TraceRefusal>
+    ensures { result ≡ cond (eqb depth 0) (Ok tt) (refused_at Refusal.TransactionOpen 0) }
 {
     if depth == 0 {
-        return TraceCheck::Passed;
+        return Ok(());
     }
-    TraceCheck::Refused {
-        refusal: Refusal::TransactionOpen,
-        record: 0,
-    }
+    Err(TraceRefusal { refusal: Refusal::TransactionOpen, at: 0 })
 }
 
 // The records, given one after another to tables that the caller lends, up to the first that is refused, and then the closing. A finding
@@ -83,14 +80,11 @@ pub fn give_records(
         let answer = s.answer;
         counts = s.counts;
         match answer {
-            Answer::Refused(refusal) => {
-                let check = TraceCheck::Refused {
-                    refusal,
-                    record: number,
-                };
+            Err(refusal) => {
+                let check = Err(TraceRefusal { refusal: refusal, at: number });
                 return Judged { check, counts };
             }
-            Answer::Found(_) => {}
+            Ok(_) => {}
         }
         i = number;
     }

@@ -4,7 +4,7 @@ use mathlib.Core.List.{List}
 use Prim.Native.Nat.{ℕ, ◌%◌, ◌^◌, ◌<◌}
 use native.Mathlib.Omega.{arith}
 use Rattle.event.specs.declared.Range.{Range}
-use Rattle.event.specs.declared.Parsed.{Parsed}
+use Rattle.event.specs.Answers.{Parsed}
 use Rattle.event.specs.Reply.{Reply}
 use Rattle.records.specs.Record.{parsed, parsed_fields, fields_bytes}
 use Rattle.records.proofs.RoundTrip.{fields_read}

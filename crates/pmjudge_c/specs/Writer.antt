@@ -1,12 +1,10 @@
 -- A writer and the answers to its calls as numbers.
-use Rattle.std.specs.Prelude.{List, [], ◌∷◌, ℕ, ◌%◌, ◌^◌, get_or}
-use Rattle.event.specs.declared.Check.{Check}
-use Rattle.event.specs.declared.Check.TheVariants.{Passed, Refused as Breaks}
+use Rattle.std.specs.Prelude.{List, [], ◌∷◌, ℕ, ◌%◌, ◌^◌, get_or, Ok, Err}
+use Rattle.event.specs.Answers.{Check}
 use Rattle.event.specs.Reply.{Reply}
 use Rattle.records.specs.Record.{fields_bytes}
 use Rattle.file.specs.declared.Writer.{Writer}
-use Rattle.file.specs.declared.Started.{Started}
-use Rattle.file.specs.declared.Started.TheVariants.{Refused, Ready}
+use Rattle.file.specs.Answers.{Started}
 use Rattle.file.specs.declared.Written.{Written}
 use Rattle.file.specs.Write.{writer_with}
 use Rattle.replies.specs.declared.Numbers.{Numbers}
@@ -28,12 +26,12 @@ writer_from n = writer_with (get_or n 0 0 % 2 ^ 16) (get_or n 1 0) (get_or n 2 0
 
 -- the numbers after a start and after an event; a refused one leaves them as they were
 abbrev pub after_start : Started → List ℕ → List ℕ
-after_start (Ready w) n = writer_numbers w
-after_start (Refused x) n = n
+after_start (Ok w) n = writer_numbers w
+after_start (Err x) n = n
 
 abbrev pub after_check : Check → Writer → List ℕ → List ℕ
-after_check Passed w n = writer_numbers w
-after_check (Breaks x) w n = n
+after_check (Ok tt) w n = writer_numbers w
+after_check (Err x) w n = n
 
 abbrev pub after_event : Written → List ℕ → List ℕ
 after_event x n = after_check x.check x.writer n

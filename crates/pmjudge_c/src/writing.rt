@@ -6,8 +6,8 @@ ghost use Rattle.file.specs.Reply.{start_reply, written_reply, closed_reply};
 ghost use Rattle.replies.specs.Numbers.{in_bits32};
 ghost use Rattle.pmjudge_c.specs.Writer.{with_length, two_numbers, writer_numbers, writer_from, after_start, after_check, after_event, event_bytes};
 
-use event::{Check, Range};
-use file::{Started, Writer};
+use event::{Range, Refusal};
+use file::Writer;
 use replies::Numbers;
 
 // The numbers of an answer that has no value, or a length.
@@ -38,22 +38,22 @@ fn writer_of(n: &[u32; 4]) -> Writer
 }
 
 // The numbers of a writer put in the place of others, where the check passed.
-fn put_numbers(n: &mut [u32; 4], c: Check, w: Writer)
+fn put_numbers(n: &mut [u32; 4], c: Result<(), Refusal>, w: Writer)
     ensures { n.new ≡ after_check c w n.old }
 {
     match c {
-        Check::Refused(_) => {}
-        Check::Passed => *n = numbers_of(w),
+        Err(_) => {}
+        Ok(()) => *n = numbers_of(w),
     }
 }
 
 // The numbers of the writer that a start handed over.
-fn put_started(n: &mut [u32; 4], s: Started)
+fn put_started(n: &mut [u32; 4], s: Result<Writer, Refusal>)
     ensures { n.new ≡ after_start s n.old }
 {
     match s {
-        Started::Refused(_) => {}
-        Started::Ready(w) => *n = numbers_of(w),
+        Err(_) => {}
+        Ok(w) => *n = numbers_of(w),
     }
 }
 

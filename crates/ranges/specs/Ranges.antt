@@ -1,11 +1,10 @@
 -- Ranges of bytes: what a range covers and which lines it touches, whether two share a byte, and the limits 9 and 18.
-use Rattle.std.specs.Prelude.{Bool, false, cond, not, ◌&&◌, ◌||◌, List, [], ◌∷◌, ℕ, ◌+◌, ◌-◌, leb, ltb, eqb}
+use Rattle.std.specs.Prelude.{Bool, false, cond, not, ◌&&◌, ◌||◌, List, [], ◌∷◌, ℕ, ◌+◌, ◌-◌, leb, ltb, eqb, Ok, Err}
 use Rattle.event.specs.declared.Range.{Range}
 use Rattle.event.specs.declared.Event.{Event}
 use Rattle.event.specs.declared.Event.TheVariants.{Store, WriteBack, Fence, Begin, Log, End, Persisted, Ordered}
 use Rattle.event.specs.declared.Refusal.TheVariants.{PastWindow, SharedByte}
-use Rattle.event.specs.declared.Check.{Check}
-use Rattle.event.specs.declared.Check.TheVariants.{Passed, Refused}
+use Rattle.event.specs.Answers.{Check}
 use Rattle.window.specs.Window.{window_bytes, line_of}
 
 -- a range ends before the byte at this address
@@ -65,4 +64,4 @@ ranges_share (Ordered a b) = shares_byte a b
 
 -- 9: a used range runs past the window; then 18: A and B share a byte
 abbrev pub range_check : ℕ → Event → Check
-range_check lines e = cond (any_range (is_past lines) (ranges_of e)) (Refused PastWindow) (cond (ranges_share e) (Refused SharedByte) Passed)
+range_check lines e = cond (any_range (is_past lines) (ranges_of e)) (Err PastWindow) (cond (ranges_share e) (Err SharedByte) (Ok tt))

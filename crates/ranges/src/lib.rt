@@ -4,7 +4,7 @@
 ghost use Rattle.std.specs.Prelude.{◌≡◌};
 ghost use Rattle.ranges.specs.Ranges.{range_end, is_empty, line_count, is_past, ranges_of, any_range, shares_byte, ranges_share, range_check};
 
-use event::{Check, Event, Range, Refusal};
+use event::{Event, Range, Refusal};
 
 // The address after the last byte of a range.
 pub fn range_end(r: Range) -> u32
@@ -79,14 +79,14 @@ fn ranges_share(e: Event) -> bool
 }
 
 // The limits 9 and 18 on the ranges that an event uses.
-pub fn check_ranges(lines: u16, e: Event) -> Check
+pub fn check_ranges(lines: u16, e: Event) -> Result<(), Refusal>
     ensures { result ≡ range_check lines e }
 {
     if any_past(lines, e) {
-        Check::Refused(Refusal::PastWindow)
+        Err(Refusal::PastWindow)
     } else if ranges_share(e) {
-        Check::Refused(Refusal::SharedByte)
+        Err(Refusal::SharedByte)
     } else {
-        Check::Passed
+        Ok(())
     }
 }

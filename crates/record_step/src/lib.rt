@@ -5,17 +5,17 @@ ghost use Rattle.std.specs.Prelude.{◌≡◌};
 ghost use Rattle.tables.specs.View.{run_of};
 ghost use Rattle.record_step.specs.Step.{placed_for, stage, record_answer, record_given};
 
-use event::{Answer, Parsed};
+use event::{Finding, Record, Refusal};
 use events::Stepped;
 use tables::Counts;
 
 // The finding that an event got, with its site, put at a place of the buffer; nothing where the event was refused.
-fn put_found(buffer: &mut [u8], at: usize, answer: Answer, site: u16)
+fn put_found(buffer: &mut [u8], at: usize, answer: Result<Finding, Refusal>, site: u16)
     ensures { buffer.new ≡ placed_for answer site at buffer.old }
 {
     match answer {
-        Answer::Refused(_) => {}
-        Answer::Found(f) => {
+        Err(_) => {}
+        Ok(f) => {
             let bytes = codec::finding_bytes(f, site);
             codec::put(buffer, at, &bytes);
         }
@@ -33,7 +33,7 @@ pub fn judge_record(
     written: &mut [u16],
     dirtied: &mut [u16; 64],
     backed: &mut [u16; 64],
-    p: Parsed,
+    p: Result<Record, Refusal>,
     at: usize,
     buffer: &mut [u8],
 ) -> Stepped
@@ -54,11 +54,11 @@ pub fn judge_record(
         buffer.old) }
 {
     match p {
-        Parsed::Refused(x) => Stepped {
-            answer: Answer::Refused(x),
+        Err(x) => Stepped {
+            answer: Err(x),
             counts,
         },
-        Parsed::Read(r) => {
+        Ok(r) => {
             let s = events::step(
                 counts, stored, logged, fenced, opened, closed, written, dirtied, backed, r,
             );

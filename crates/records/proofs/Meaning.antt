@@ -1,5 +1,6 @@
 -- What the definitions of an event's kind and of the refusals 6 and 7 say, so that a wrong definition is refused here.
 -- Assumes nothing.
+use Rattle.std.specs.Prelude.{Err}
 use mathlib.Core.Path.{◌≡◌, refl}
 use mathlib.Core.Bool.{true}
 use mathlib.Core.List.{List, [], ◌∷◌}
@@ -8,7 +9,6 @@ use native.Mathlib.Omega.{arith}
 use lib.Dec.{leb}
 use borrow.Author.Tests.{leb-true}
 use Rattle.event.specs.declared.Range.{Range}
-use Rattle.event.specs.declared.Parsed.TheVariants.{Refused}
 use Rattle.event.specs.declared.Refusal.TheVariants.{UnknownKind, FieldSet}
 use Rattle.event.specs.Numbers.{kind_of}
 use Rattle.event.proofs.Bools.{contradiction, and_right}
@@ -25,11 +25,11 @@ kind_of_event (suc n) a b e =
     equal_by (at (λ k. kind_of (event_of (suc k) a b)) kinds tt n below) (at suc kinds tt n below)
 
 -- A record of kind 9 is refused by 6, also with its zero byte set; one of kind 3 with its zero byte or a range set is refused by 7.
-pub unknown_kind : parsed (9 ∷ 1 ∷ []) ≡ Refused UnknownKind
+pub unknown_kind : parsed (9 ∷ 1 ∷ []) ≡ Err UnknownKind
 unknown_kind = refl
 
-pub zero_byte_set : parsed (3 ∷ 1 ∷ []) ≡ Refused FieldSet
+pub zero_byte_set : parsed (3 ∷ 1 ∷ []) ≡ Err FieldSet
 zero_byte_set = refl
 
-pub range_set : parsed (3 ∷ 0 ∷ 0 ∷ 0 ∷ 8 ∷ []) ≡ Refused FieldSet
+pub range_set : parsed (3 ∷ 0 ∷ 0 ∷ 0 ∷ 8 ∷ []) ≡ Err FieldSet
 range_set = refl

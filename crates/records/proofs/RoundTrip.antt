@@ -1,5 +1,6 @@
 -- Reading a record accepts exactly the bytes of records: those of each record, which it gives back, and no others.
 -- Assumes nothing.
+use Rattle.std.specs.Prelude.{Ok, Err}
 use mathlib.Core.Path.{◌≡◌, refl, sym, ap, ◌∙◌}
 use mathlib.Core.Bool.{Bool, true, false, cond, not, ◌&&◌, ◌||◌}
 use mathlib.Core.List.{List, [], ◌∷◌, ◌++◌}
@@ -12,7 +13,7 @@ use Rattle.event.specs.declared.Range.{Range}
 use Rattle.event.specs.declared.Event.{Event}
 use Rattle.event.specs.declared.Event.TheVariants.{Store, WriteBack, Fence, Begin, Log, End, Persisted, Ordered}
 use Rattle.event.specs.declared.Record.{Record}
-use Rattle.event.specs.declared.Parsed.TheVariants.{Read, Refused}
+use Rattle.event.specs.Answers.{Parsed}
 use Rattle.event.specs.declared.Refusal.TheVariants.{UnknownKind, FieldSet}
 use Rattle.event.specs.Numbers.{kind_of}
 use Rattle.ranges.specs.Ranges.{ranges_of}
@@ -22,7 +23,7 @@ use Rattle.event.proofs.Bools.{contradiction, and_left, and_right}
 use Rattle.codec.proofs.Meaning.{u16_round_trip, u16_bytes_lem}
 use Rattle.records.proofs.Meaning.{kind_of_event}
 
-pub read_back : (e : Event) (site : ℕ) → parsed (record_bytes e site) ≡ Read (record { event = e; site = site })
+pub read_back : (e : Event) (site : ℕ) → parsed (record_bytes e site) ≡ Ok (record { event = e; site = site })
 read_back (Store a) site = simp u16_round_trip
 read_back (WriteBack a) site = simp u16_round_trip
 read_back Fence site = simp u16_round_trip
@@ -43,14 +44,14 @@ pub record ReadFrom (s : List ℕ) (e : Event) (site : ℕ) : Type 0 where
   pub event : e ≡ event_of (get_or s 0 0) (range_at s 2) (range_at s 6)
   pub from : site ≡ u16_at s 10
 
-same_record : (x y : Record) → Read x ≡ Read y → x ≡ y
+same_record : (x y : Record) → ◌≡◌ {A = Parsed} (Ok x) (Ok y) → x ≡ y
 same_record x y k = cc
 
-read_from : (s : List ℕ) (e : Event) (site : ℕ) → parsed s ≡ Read (record { event = e; site = site }) → ReadFrom s e site
+read_from : (s : List ℕ) (e : Event) (site : ℕ) → parsed s ≡ Ok (record { event = e; site = site }) → ReadFrom s e site
 read_from s e site k = go (is_kind (get_or s 0 0)) refl (is_clear (get_or s 0 0) (get_or s 1 0) (range_at s 2) (range_at s 6)) refl k
   where
     go : (b : Bool) → is_kind (get_or s 0 0) ≡ b → (c : Bool) → is_clear (get_or s 0 0) (get_or s 1 0) (range_at s 2) (range_at s 6) ≡ c →
-        cond (not b) (Refused UnknownKind) (cond (not c) (Refused FieldSet) (Read (record_of s))) ≡ Read (record { event = e; site = site }) → ReadFrom s e site
+        cond (not b) (Err UnknownKind) (cond (not c) (Err FieldSet) (Ok (record_of s))) ≡ Ok (record { event = e; site = site }) → ReadFrom s e site
     go true p true q k = let same = same_record _ _ (sym k) in record { known = p; clear = q; event = ap (λ (r : Record). r.event) same; from = ap (λ (r : Record). r.site) same }
     go true p false q k = let z : ◌≡◌ {A = ℕ} 0 1 = cc in absurd (omega arith)
     go false p c q k = let z : ◌≡◌ {A = ℕ} 0 1 = cc in absurd (omega arith)
@@ -89,7 +90,7 @@ pub record Held (s : List ℕ) (e : Event) (site : ℕ) : Type 0 where
   pub second : get_or (ranges_of e) 1 zero_range ≡ range_at s 6
   pub from : site ≡ u16_at s 10
 
-pub bytes_hold : (s : List ℕ) (e : Event) (site : ℕ) → parsed s ≡ Read (record { event = e; site = site }) → Held s e site
+pub bytes_hold : (s : List ℕ) (e : Event) (site : ℕ) → parsed s ≡ Ok (record { event = e; site = site }) → Held s e site
 bytes_hold s e site k =
     record {
       kind = ap kind_of x.event ∙ kind_of_event (get_or s 0 0) (range_at s 2) (range_at s 6) x.known;
@@ -116,7 +117,7 @@ abbrev bytes : ℕ → ℕ → Range → Range → ℕ → List ℕ
 bytes kind clear a b site = kind ∷ clear ∷ range_bytes a ++ range_bytes b ++ u16_bytes site
 
 -- the first 12 bytes of what is accepted are the bytes of the record that is read
-pub accepted_bytes : (s : List ℕ) (e : Event) (site : ℕ) → ((i : ℕ) → get_or s i 0 < 256) → parsed s ≡ Read (record { event = e; site = site }) →
+pub accepted_bytes : (s : List ℕ) (e : Event) (site : ℕ) → ((i : ℕ) → get_or s i 0 < 256) → parsed s ≡ Ok (record { event = e; site = site }) →
     record_bytes e site ≡ padded 12 s
 accepted_bytes s e site small k = (λ i. bytes (x.kind i) (x.clear i) (x.first i) (x.second i) (x.from i)) ∙ (λ i. laid i)
   where
@@ -130,7 +131,7 @@ accepted_bytes s e site small k = (λ i. bytes (x.kind i) (x.clear i) (x.first i
     laid i = get_or s 0 0 ∷ get_or s 1 0 ∷ (pair 2 i ++ pair 4 i) ++ (pair 6 i ++ pair 8 i) ++ pair 10 i
 
 -- and its values are the numbers in its bytes
-pub read_values : (s : List ℕ) (r : Record) → parsed s ≡ Read r →
+pub read_values : (s : List ℕ) (r : Record) → parsed s ≡ Ok r →
     record_values r ≡ get_or s 0 0 ∷ u16_at s 2 ∷ u16_at s 4 ∷ u16_at s 6 ∷ u16_at s 8 ∷ u16_at s 10 ∷ []
 read_values s r k =
     let x = bytes_hold s r.event r.site k in

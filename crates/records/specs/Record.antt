@@ -1,12 +1,11 @@
 -- The bytes of a record.
-use Rattle.std.specs.Prelude.{Bool, cond, not, ◌&&◌, ◌||◌, List, [], ◌∷◌, ◌++◌, ℕ, zero, suc, ◌+◌, leb, eqb, get_or}
+use Rattle.std.specs.Prelude.{Bool, cond, not, ◌&&◌, ◌||◌, List, [], ◌∷◌, ◌++◌, ℕ, zero, suc, ◌+◌, leb, eqb, get_or, Ok, Err}
 use Rattle.event.specs.declared.Range.{Range}
 use Rattle.event.specs.declared.Event.{Event}
 use Rattle.event.specs.declared.Event.TheVariants.{Store, WriteBack, Fence, Begin, Log, End, Persisted, Ordered}
 use Rattle.event.specs.declared.Record.{Record}
 use Rattle.event.specs.declared.Refusal.TheVariants.{UnknownKind, FieldSet}
-use Rattle.event.specs.declared.Parsed.{Parsed}
-use Rattle.event.specs.declared.Parsed.TheVariants.{Read, Refused}
+use Rattle.event.specs.Answers.{Parsed}
 use Rattle.event.specs.Numbers.{kind_of, number_of}
 use Rattle.event.specs.Reply.{Reply}
 use Rattle.ranges.specs.Ranges.{ranges_of}
@@ -66,14 +65,14 @@ field_set s = not (is_clear (get_or s 0 0) (get_or s 1 0) (range_at s 2) (range_
 
 -- the record, or the first of 6 and 7 that applies
 abbrev pub parsed : List ℕ → Parsed
-parsed s = cond (bad_kind s) (Refused UnknownKind) (cond (field_set s) (Refused FieldSet) (Read (record_of s)))
+parsed s = cond (bad_kind s) (Err UnknownKind) (cond (field_set s) (Err FieldSet) (Ok (record_of s)))
 
 -- the same of the numbers that the bytes hold
 abbrev pub parsed_fields : (kind zeroByte : ℕ) (a b : Range) (site : ℕ) → Parsed
 parsed_fields kind zeroByte a b site =
-    cond (not (is_kind kind)) (Refused UnknownKind)
-    (cond (not (is_clear kind zeroByte a b)) (Refused FieldSet)
-    (Read (record { event = event_of kind a b; site = site })))
+    cond (not (is_kind kind)) (Err UnknownKind)
+    (cond (not (is_clear kind zeroByte a b)) (Err FieldSet)
+    (Ok (record { event = event_of kind a b; site = site })))
 
 -- the first n bytes; bytes past the end count as 0
 abbrev pub padded : ℕ → List ℕ → List ℕ
@@ -109,5 +108,5 @@ abbrev pub record_values : Record → List ℕ
 record_values r = kind_of r.event ∷ range_values (range_a r.event) ++ range_values (range_b r.event) ++ r.site ∷ []
 
 abbrev pub read_reply : Parsed → Reply
-read_reply (Read r) = Reply.values (record_values r)
-read_reply (Refused x) = Reply.refused (number_of x) 0
+read_reply (Ok r) = Reply.values (record_values r)
+read_reply (Err x) = Reply.refused (number_of x) 0

@@ -5,7 +5,7 @@ ghost use Rattle.std.specs.Prelude.{◌≡◌, ◌||◌, ◌+◌, ◌≤◌, len
 ghost use Rattle.codec.specs.Codec.{u16_at};
 ghost use Rattle.records.specs.Record.{range_at, is_kind, uses_a, uses_b, is_zero, is_clear, event_of, parsed, parsed_fields, padded};
 
-use event::{Event, Parsed, Range, Record, Refusal};
+use event::{Event, Range, Record, Refusal};
 
 // The u16 at a place, both of whose bytes are there.
 fn u16_in(s: &[u8], at: usize) -> u16
@@ -100,23 +100,23 @@ pub fn padded(s: &[u8]) -> [u8; 12]
 }
 
 // The record of these numbers, or the refusal 6 or 7.
-pub fn read_fields(kind: u8, zero: u8, a: Range, b: Range, site: u16) -> Parsed
+pub fn read_fields(kind: u8, zero: u8, a: Range, b: Range, site: u16) -> Result<Record, Refusal>
     ensures { result ≡ parsed_fields kind zero a b site }
 {
     if !is_kind(kind) {
-        return Parsed::Refused(Refusal::UnknownKind);
+        return Err(Refusal::UnknownKind);
     }
     if !is_clear(kind, zero, a, b) {
-        return Parsed::Refused(Refusal::FieldSet);
+        return Err(Refusal::FieldSet);
     }
-    Parsed::Read(Record {
+    Ok(Record {
         event: event_of(kind, a, b),
         site,
     })
 }
 
 // The record in 12 bytes, or the refusal 6 or 7.
-fn read_whole(s: &[u8]) -> Parsed
+fn read_whole(s: &[u8]) -> Result<Record, Refusal>
     requires { 12 ≤ length s.now }
     ensures { result ≡ parsed s.now }
 {
@@ -127,7 +127,7 @@ fn read_whole(s: &[u8]) -> Parsed
 }
 
 // The record in the first 12 bytes of a slice, or the refusal 6 or 7. Bytes past the end count as 0.
-pub fn read_record(s: &[u8]) -> Parsed
+pub fn read_record(s: &[u8]) -> Result<Record, Refusal>
     ensures { result ≡ parsed s.now }
 {
     if s.len() < 12 {

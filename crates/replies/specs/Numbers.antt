@@ -1,10 +1,9 @@
 -- An answer as numbers: the refusal's number, 0 where there is none; the number of the record refused; and the values, with how many
 -- there are. What an answer lacks is 0.
-use Rattle.std.specs.Prelude.{List, [], ℕ, ◌%◌, ◌^◌, length}
+use Rattle.std.specs.Prelude.{List, [], ℕ, ◌%◌, ◌^◌, length, Ok, Err}
 use Rattle.event.specs.Reply.{Reply}
 use Rattle.records.specs.Record.{padded}
-use Rattle.file.specs.declared.Closed.{Closed}
-use Rattle.file.specs.declared.Closed.TheVariants.{Refused, File}
+use Rattle.file.specs.Answers.{Closed}
 use Rattle.replies.specs.declared.Numbers.{Numbers}
 
 -- no answer has more values: those of a closed interval are two epochs, three events and their three sites
@@ -20,5 +19,5 @@ numbers_of (Reply.values values) = numbers_with 0 0 values
 
 -- the length of a file has 32 bits: only a writer that no start handed over can have a longer one
 abbrev pub in_bits32 : Closed → Closed
-in_bits32 (File length) = File (length % 2 ^ 32)
-in_bits32 (Refused x) = Refused x
+in_bits32 (Ok length) = Ok (length % 2 ^ 32)
+in_bits32 (Err x) = Err x

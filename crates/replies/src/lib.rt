@@ -13,14 +13,11 @@ ghost use Rattle.trace_interval.specs.TraceInterval.{site_values, trace_interval
 ghost use Rattle.pages.specs.Paged.{paged_reply};
 ghost use Rattle.replies.specs.Numbers.{numbers_of, in_bits32};
 
-use engine::{Asked, Closing};
-use event::{Answer, Check, NamedInterval, Refusal, numbers};
-use exposure::Exposed;
-use file::{Closed, Started};
-use pages::Paged;
-use trace_exposure::TraceExposure;
-use trace_interval::{Sites, TraceInterval};
-use verdict::Verdict;
+use event::{Finding, NamedInterval, Refusal, Totals, TraceRefusal, numbers};
+use exposure::Mean;
+use file::Writer;
+use pages::PageRefusal;
+use trace_interval::{SitedInterval, Sites};
 
 // A refusal's number and its record's, both 0 where there is none; and the values, so many of them, with 0 behind them.
 #[derive(Clone, Copy)]
@@ -155,22 +152,22 @@ fn with_sites(i: NamedInterval, s: Sites) -> Numbers
 }
 
 // A fresh window, or an event given to a writer.
-pub fn of_check(c: Check) -> Numbers
+pub fn of_check(c: Result<(), Refusal>) -> Numbers
     ensures { result ≡ numbers_of (check_reply c) }
 {
     match c {
-        Check::Passed => nothing(),
-        Check::Refused(x) => refused(x, 0),
+        Ok(()) => nothing(),
+        Err(x) => refused(x, 0),
     }
 }
 
 // An event given to a run: kind, lost, kept, moment, store.
-pub fn of_answer(a: Answer) -> Numbers
+pub fn of_answer(a: Result<Finding, Refusal>) -> Numbers
     ensures { result ≡ numbers_of (answer_reply a) }
 {
     match a {
-        Answer::Refused(x) => refused(x, 0),
-        Answer::Found(f) => {
+        Err(x) => refused(x, 0),
+        Ok(f) => {
             let x = numbers::fields(f);
             five(x.kind as u16, x.lost, x.kept, x.moment, x.store)
         }
@@ -178,107 +175,107 @@ pub fn of_answer(a: Answer) -> Numbers
 }
 
 // A byte asked of a run: its epochs, and then its events.
-pub fn of_asked(a: Asked) -> Numbers
+pub fn of_asked(a: Result<NamedInterval, Refusal>) -> Numbers
     ensures { result ≡ numbers_of (asked_reply a) }
 {
     match a {
-        Asked::Refused(x) => refused(x, 0),
-        Asked::Known(i) => of_interval(i),
+        Err(x) => refused(x, 0),
+        Ok(i) => of_interval(i),
     }
 }
 
 // A run closed: events, fences, findings other than none.
-pub fn of_closing(c: Closing) -> Numbers
+pub fn of_closing(c: Result<Totals, Refusal>) -> Numbers
     ensures { result ≡ numbers_of (closing_reply c) }
 {
     match c {
-        Closing::Refused(x) => refused(x, 0),
-        Closing::Totals {
+        Err(x) => refused(x, 0),
+        Ok(Totals {
             events,
             fences,
             findings,
-        } => three(events, fences, findings),
+        }) => three(events, fences, findings),
     }
 }
 
 // The mean exposure of a run: quotient, remainder, divisor.
-pub fn of_exposed(e: Exposed) -> Numbers
+pub fn of_exposed(e: Result<Mean, Refusal>) -> Numbers
     ensures { result ≡ numbers_of (exposure_reply e) }
 {
     match e {
-        Exposed::Refused(x) => refused(x, 0),
-        Exposed::Mean {
+        Err(x) => refused(x, 0),
+        Ok(Mean {
             quotient,
             remainder,
             divisor,
-        } => three(quotient, remainder, divisor),
+        }) => three(quotient, remainder, divisor),
     }
 }
 
 // A file started.
-pub fn of_started(s: Started) -> Numbers
+pub fn of_started(s: Result<Writer, Refusal>) -> Numbers
     ensures { result ≡ numbers_of (start_reply s) }
 {
     match s {
-        Started::Refused(x) => refused(x, 0),
-        Started::Ready(_) => nothing(),
+        Err(x) => refused(x, 0),
+        Ok(_) => nothing(),
     }
 }
 
 // A file closed: its length.
-pub fn of_closed(c: Closed) -> Numbers
+pub fn of_closed(c: Result<usize, Refusal>) -> Numbers
     ensures { result ≡ numbers_of (closed_reply (in_bits32 c)) }
 {
     match c {
-        Closed::Refused(x) => refused(x, 0),
-        Closed::File(length) => one((length % 4294967296) as u32),
+        Err(x) => refused(x, 0),
+        Ok(length) => one((length % 4294967296) as u32),
     }
 }
 
 // A trace judged: events, fences, findings other than none.
-pub fn of_verdict(v: Verdict) -> Numbers
+pub fn of_verdict(v: Result<Totals, TraceRefusal>) -> Numbers
     ensures { result ≡ numbers_of (verdict_reply v) }
 {
     match v {
-        Verdict::Refused { refusal, record } => refused(refusal, record),
-        Verdict::Accepted {
+        Err(TraceRefusal { refusal, at: record }) => refused(refusal, record),
+        Ok(Totals {
             events,
             fences,
             findings,
-        } => three(events, fences, findings),
+        }) => three(events, fences, findings),
     }
 }
 
 // The mean exposure of a trace: quotient, remainder, divisor.
-pub fn of_trace_exposure(e: TraceExposure) -> Numbers
+pub fn of_trace_exposure(e: Result<Mean, TraceRefusal>) -> Numbers
     ensures { result ≡ numbers_of (trace_exposure_reply e) }
 {
     match e {
-        TraceExposure::Refused { refusal, record } => refused(refusal, record),
-        TraceExposure::Mean {
+        Err(TraceRefusal { refusal, at: record }) => refused(refusal, record),
+        Ok(Mean {
             quotient,
             remainder,
             divisor,
-        } => three(quotient, remainder, divisor),
+        }) => three(quotient, remainder, divisor),
     }
 }
 
 // A byte asked after a trace: its epochs, its events, and the sites of these.
-pub fn of_trace_interval(t: TraceInterval) -> Numbers
+pub fn of_trace_interval(t: Result<SitedInterval, TraceRefusal>) -> Numbers
     ensures { result ≡ numbers_of (trace_interval_reply t) }
 {
     match t {
-        TraceInterval::Refused { refusal, record } => refused(refusal, record),
-        TraceInterval::Known { interval, sites } => with_sites(interval, sites),
+        Err(TraceRefusal { refusal, at: record }) => refused(refusal, record),
+        Ok(SitedInterval { interval, sites }) => with_sites(interval, sites),
     }
 }
 
 // Findings laid out on pages: the length written.
-pub fn of_paged(p: Paged) -> Numbers
+pub fn of_paged(p: Result<u32, PageRefusal>) -> Numbers
     ensures { result ≡ numbers_of (paged_reply p) }
 {
     match p {
-        Paged::Refused { refusal, position } => refused(refusal, position as u32),
-        Paged::Written { length } => one(length),
+        Err(PageRefusal { refusal, position }) => refused(refusal, position as u32),
+        Ok(length) => one(length),
     }
 }

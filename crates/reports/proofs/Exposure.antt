@@ -1,4 +1,5 @@
 -- The mean exposure or the refusal in the text.
+use Rattle.std.specs.Prelude.{Ok, Err}
 use mathlib.Core.Path.{◌≡◌}
 use mathlib.Core.List.{List}
 use Prim.Native.Nat.{ℕ, ◌≤◌}
@@ -11,18 +12,19 @@ use Rattle.text.proofs.Decimal.{decimal_length}
 use Rattle.text.proofs.Filled.{Whole, whole_put}
 use Rattle.lines.specs.Lines.{refusal_line}
 use Rattle.lines.proofs.Size.{refusal_size}
-use Rattle.trace_exposure.specs.declared.TraceExposure.{TraceExposure}
-use Rattle.trace_exposure.specs.declared.TraceExposure.TheVariants.{Refused, Mean}
+use Rattle.trace_exposure.specs.Answers.{TraceExposure}
 use Rattle.trace_exposure.specs.TraceExposure.{trace_exposure_of}
 use Rattle.reports.specs.Exposure.{exposure_line, report_for, report_of}
+use Rattle.exposure.specs.Answers.{mean}
+use Rattle.event.specs.Answers.{refused_at}
 
 -- the refusal is put, or the mean
 module _ (trace : List ℕ) (o : Out) {p : Out} {answer : TraceExposure} (answers : answer ≡ trace_exposure_of trace) where
-  pub refusal_put : {x : Refusal} {n number : ℕ} → answer ≡ Refused x n → number ≡ number_of x → p ≡ put (refusal_line number n) o → p ≡ put (report_of trace) o
+  pub refusal_put : {x : Refusal} {n number : ℕ} → answer ≡ refused_at x n → number ≡ number_of x → p ≡ put (refusal_line number n) o → p ≡ put (report_of trace) o
   unfolding report_of
   refusal_put e k l = rw (← answers, e, ← k) l
 
-  pub mean_put : {quotient remainder divisor : ℕ} → answer ≡ Mean quotient remainder divisor → p ≡ put (exposure_line quotient remainder divisor) o →
+  pub mean_put : {quotient remainder divisor : ℕ} → answer ≡ mean quotient remainder divisor → p ≡ put (exposure_line quotient remainder divisor) o →
       p ≡ put (report_of trace) o
   unfolding report_of
   mean_put e l = rw (← answers, e) l
@@ -40,8 +42,8 @@ unfolding report_of
 report_size trace = go (trace_exposure_of trace)
   where
     go : (e : TraceExposure) → length (report_for e) ≤ longest
-    go (Refused x n) = omega (arith, refusal_size (number_of x) n)
-    go (Mean quotient remainder divisor) = mean_size quotient remainder divisor
+    go (Err r) = omega (arith, refusal_size (number_of r.refusal) r.at)
+    go (Ok m) = mean_size m.quotient m.remainder m.divisor
 
 -- so where there is room for so many bytes, the whole report is put
 pub report_whole : (trace d : List ℕ) {text : List ℕ} {n : ℕ} → longest ≤ length d → out text n ≡ put (report_of trace) (out d 0) →

@@ -1,4 +1,5 @@
 -- The findings or the refusal in the area.
+use Rattle.std.specs.Prelude.{Ok, Err}
 use mathlib.Core.Path.{◌≡◌, refl, ap, ◌∙◌}
 use mathlib.Core.List.{List, [], ◌++◌}
 use Prim.Native.Nat.{ℕ, min, ◌*◌, ◌≤◌}
@@ -6,16 +7,14 @@ use native.Mathlib.Omega.{arith}
 use lib.ListN.{length, drop, length-append, length-drop}
 use lib.Seq.{take_all}
 use Rattle.event.specs.declared.Refusal.{Refusal}
-use Rattle.event.specs.declared.Parsed.{Parsed}
+use Rattle.event.specs.Answers.{Parsed, refused_at, totals}
 use Rattle.event.specs.Numbers.{number_of}
 use Rattle.codec.specs.Codec.{finding_size}
 use Rattle.history.specs.History.{History}
 use Rattle.history.specs.Refused.{first_broken}
-use Rattle.trace.specs.declared.TraceCheck.{TraceCheck}
-use Rattle.trace.specs.declared.TraceCheck.TheVariants.{Passed, Refused as RefusedAt}
+use Rattle.trace.specs.Answers.{TraceCheck}
 use Rattle.trace.specs.Records.{lines_in, records_in, events_of, events_in}
 use Rattle.trace.specs.Checked.{check_all}
-use Rattle.verdict.specs.declared.Verdict.TheVariants.{Refused, Accepted}
 use Rattle.verdict.specs.Verdict.{area_size, trace_limits, trace_check, history_of, answers_of, findings_bytes, verdict_for, verdict_of, area_after}
 use Rattle.verdict.proofs.Order.{unless_passed}
 use Rattle.verdict.proofs.Outcome.{area_stays, area_holds, all_counted}
@@ -45,13 +44,13 @@ module _ (trace area : List ℕ) where
     size : length (findings_bytes (events_in trace) (answers_of trace)) ≡ area_size trace
     counted : finding_size * events ≡ area_size trace
 
-  taken : {events fences findings : ℕ} {left : List ℕ} → verdict_of trace area ≡ Accepted events fences findings → left ≡ area_after trace area → Taken events left
+  taken : {events fences findings : ℕ} {left : List ℕ} → verdict_of trace area ≡ totals events fences findings → left ≡ area_after trace area → Taken events left
   unfolding verdict_of
   taken {events} {fences} {findings} {left} e l = go (trace_check trace area) refl e
     where
-      go : (c : TraceCheck) → trace_check trace area ≡ c → verdict_for c (history_of trace) (answers_of trace) ≡ Accepted events fences findings → Taken events left
-      go (RefusedAt y m) p k = let z : ◌≡◌ {A = ℕ} 0 1 = cc in absurd (omega arith)
-      go Passed p k =
+      go : (c : TraceCheck) → trace_check trace area ≡ c → verdict_for c (history_of trace) (answers_of trace) ≡ totals events fences findings → Taken events left
+      go (Err r) p k = let z : ◌≡◌ {A = ℕ} 0 1 = cc in absurd (omega arith)
+      go (Ok tt) p k =
           let check = unless_passed (first_broken (trace_limits trace area)) 0 (check_all (lines_in trace) (records_in trace)) p in
           let same : events ≡ length (history_of trace) = cc in
           record {
@@ -61,22 +60,22 @@ module _ (trace area : List ℕ) where
           }
 
   -- a refused trace leaves the area as it was
-  stays : {x : Refusal} {n : ℕ} → verdict_of trace area ≡ Refused x n → area_after trace area ≡ area
+  stays : {x : Refusal} {n : ℕ} → verdict_of trace area ≡ refused_at x n → area_after trace area ≡ area
   unfolding verdict_of
   stays {x} {n} e = go (trace_check trace area) refl e
     where
-      go : (c : TraceCheck) → trace_check trace area ≡ c → verdict_for c (history_of trace) (answers_of trace) ≡ Refused x n → area_after trace area ≡ area
-      go Passed p k = let z : ◌≡◌ {A = ℕ} 0 1 = cc in absurd (omega arith)
-      go (RefusedAt y m) p k = area_stays trace area p
+      go : (c : TraceCheck) → trace_check trace area ≡ c → verdict_for c (history_of trace) (answers_of trace) ≡ refused_at x n → area_after trace area ≡ area
+      go (Ok tt) p k = let z : ◌≡◌ {A = ℕ} 0 1 = cc in absurd (omega arith)
+      go (Err r) p k = area_stays trace area p
 
   -- the refusal is put
-  pub refusal_put : {x : Refusal} {n number next : ℕ} {after left : List ℕ} → verdict_of trace area ≡ Refused x n → number ≡ number_of x →
+  pub refusal_put : {x : Refusal} {n number next : ℕ} {after left : List ℕ} → verdict_of trace area ≡ refused_at x n → number ≡ number_of x →
       left ≡ area_after trace area → out after next ≡ put (refusal_line number n) (out left 0) → out after next ≡ put (report_of trace area) (out area 0)
   unfolding report_of
   refusal_put e k l p = rw (e, ← k) (rw (l, stays e) at p)
 
   -- the findings are there
-  pub findings_put_lem : {events fences findings n : ℕ} {left : List ℕ} → verdict_of trace area ≡ Accepted events fences findings → left ≡ area_after trace area →
+  pub findings_put_lem : {events fences findings n : ℕ} {left : List ℕ} → verdict_of trace area ≡ totals events fences findings → left ≡ area_after trace area →
       length left ≡ length area → n ≡ 12 * events → out left n ≡ put (report_of trace area) (out area 0)
   unfolding report_of
   findings_put_lem {left = left} e l same k =

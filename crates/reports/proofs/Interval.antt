@@ -1,4 +1,5 @@
 -- The interval or the refusal in the text.
+use Rattle.std.specs.Prelude.{Ok, Err}
 use mathlib.Core.Path.{◌≡◌}
 use mathlib.Core.List.{List, ◌++◌}
 use Prim.Native.Nat.{ℕ, ◌≤◌}
@@ -15,10 +16,10 @@ use Rattle.lines.proofs.Size.{refusal_size}
 use Rattle.interval_lines.specs.Lines.{interval_text}
 use Rattle.interval_lines.proofs.Size.{text_size}
 use Rattle.trace_interval.specs.declared.Sites.{Sites}
-use Rattle.trace_interval.specs.declared.TraceInterval.{TraceInterval}
-use Rattle.trace_interval.specs.declared.TraceInterval.TheVariants.{Refused, Known}
+use Rattle.trace_interval.specs.Answers.{TraceInterval, sited}
 use Rattle.trace_interval.specs.TraceInterval.{trace_interval_of}
 use Rattle.reports.specs.Interval.{byte_in, trace_in, report_for, report_of}
+use Rattle.event.specs.Answers.{refused_at}
 
 -- the refusal is put, or the interval
 module _ (input : List ℕ) {byte : ℕ} (number : byte ≡ byte_in input) {trace : List ℕ} (rest : trace ≡ trace_in input)
@@ -27,11 +28,11 @@ module _ (input : List ℕ) {byte : ℕ} (number : byte ≡ byte_in input) {trac
   unfolding report_of
   same_report = rw (answers, rest, number)
 
-  pub refusal_put : (o : Out) {p : Out} {x : Refusal} {n code : ℕ} → answer ≡ Refused x n → code ≡ number_of x → p ≡ put (refusal_line code n) o →
+  pub refusal_put : (o : Out) {p : Out} {x : Refusal} {n code : ℕ} → answer ≡ refused_at x n → code ≡ number_of x → p ≡ put (refusal_line code n) o →
       p ≡ put (report_of input) o
   refusal_put o e k l = rw (← same_report, e, ← k) l
 
-  pub known_put : (o : Out) {p : Out} {i : NamedInterval} {s : Sites} → answer ≡ Known i s →
+  pub known_put : (o : Out) {p : Out} {i : NamedInterval} {s : Sites} → answer ≡ sited i s →
       p ≡ put (ascii "byte " ++ decimal byte ++ ascii " " ++ interval_text i s) o →
       p ≡ put (report_of input) o
   known_put o e l = rw (← same_report, e) l
@@ -45,8 +46,8 @@ unfolding report_of
 report_size input = go (trace_interval_of (trace_in input) (byte_in input))
   where
     go : (a : TraceInterval) → length (report_for (byte_in input) a) ≤ longest
-    go (Refused x n) = omega (arith, refusal_size (number_of x) n)
-    go (Known i s) = simp length-append (omega (arith, decimal_length (byte_in input), text_size i s))
+    go (Err r) = omega (arith, refusal_size (number_of r.refusal) r.at)
+    go (Ok k) = simp length-append (omega (arith, decimal_length (byte_in input), text_size k.interval k.sites))
 
 -- so where there is room for so many bytes, the whole report is put
 pub report_whole : (input d : List ℕ) {text : List ℕ} {n : ℕ} → longest ≤ length d → out text n ≡ put (report_of input) (out d 0) →

@@ -4,8 +4,8 @@ ghost use Rattle.text.specs.Text.{ascii, decimal, out, put};
 ghost use Rattle.interval_lines.specs.Lines.{interval_text};
 ghost use Rattle.reports.specs.Interval.{trace_in, report_of};
 
-use event::{NamedInterval, numbers};
-use trace_interval::{Sites, TraceInterval};
+use event::{NamedInterval, TraceRefusal, numbers};
+use trace_interval::{SitedInterval, Sites};
 
 // No report is longer: the words of a closed interval and of three sites, and twelve numbers, were these of ten digits.
 pub const LONGEST: usize = 200;
@@ -37,13 +37,13 @@ fn put_report(input: &[u8], text: &mut [u8]) -> usize
 {
     let byte = codec::u16_at(input, 0);
     match trace_interval::interval(trace_in(input), byte) {
-        TraceInterval::Refused { refusal, record } => lines::refusal(
+        Err(TraceRefusal { refusal, at: record }) => lines::refusal(
             text,
             0,
             numbers::number(refusal),
             record,
         ),
-        TraceInterval::Known { interval, sites } => put_known(text, byte, interval, sites),
+        Ok(SitedInterval { interval, sites }) => put_known(text, byte, interval, sites),
     }
 }
 

@@ -4,19 +4,19 @@ ghost use Rattle.text.specs.Text.{out, put};
 ghost use Rattle.reports.specs.Pages.{report_of};
 
 use event::numbers;
-use pages::Paged;
+use pages::PageRefusal;
 
 // Puts the pages or the refusal at the start of the text, and answers the length.
 pub fn put_report(area: &[u8], text: &mut [u8]) -> usize
     ensures { out text.new result ≡ put (report_of area.now (length text.old)) (out text.old 0) }
 {
     match pages::pages(area, text) {
-        Paged::Refused { refusal, position } => lines::refusal(
+        Err(PageRefusal { refusal, position }) => lines::refusal(
             text,
             0,
             numbers::number(refusal),
             position as u32,
         ),
-        Paged::Written { length } => length as usize,
+        Ok(length) => length as usize,
     }
 }

@@ -1,4 +1,5 @@
 -- A trace that is opened is laid out as its parts: free bytes, the part of its records, the bytes of its trailer.
+use Rattle.std.specs.Prelude.{Ok}
 use mathlib.Core.Path.{◌≡◌, ap, subst, ◌∙◌}
 use mathlib.Core.Bool.{true}
 use mathlib.Core.List.{List, ◌++◌}
@@ -9,7 +10,6 @@ use lib.ListN.{length, take, get_or}
 use borrow.Author.Tests.{not-false, eqb-true, ltb-false}
 use Rattle.history.specs.Refused.{NoneBroken}
 use Rattle.trailer.specs.declared.Trailer.{Trailer}
-use Rattle.trailer.specs.declared.Opened.TheVariants.{Known}
 use Rattle.trailer.specs.Trailer.{trailer_size, trailer_bytes, has_mark, trailer_of, trailer_with, end_of, file_limits, opened_of}
 use Rattle.trailer.proofs.Parts.{three_parts}
 use Rattle.trailer.proofs.Lines.{window_zero}
@@ -32,6 +32,6 @@ module _ (s : List ℕ) (small : (i : ℕ) → get_or s i 0 < 256) where
       (trailer_laid s small enough marked (window_zero (trailer_of s) d))
 
 -- so a trace is laid out as the trailer says that it is opened with
-pub known_bytes : (s : List ℕ) {t : Trailer} → ((i : ℕ) → get_or s i 0 < 256) → opened_of s ≡ Known t →
+pub known_bytes : (s : List ℕ) {t : Trailer} → ((i : ℕ) → get_or s i 0 < 256) → opened_of s ≡ Ok t →
     s ≡ take t.offset s ++ record_part t.offset s ++ trailer_with t.offset t.count t.lines
 known_bytes s {t} small k = subst (Laid s) (opened s k).trailer (unbroken_laid s small (opened s k).limits)

@@ -1,4 +1,5 @@
 -- A trace laid out as its parts is read as them.
+use Rattle.std.specs.Prelude.{Ok}
 use mathlib.Core.Path.{◌≡◌, refl, sym, ap, ◌∙◌}
 use mathlib.Core.Bool.{false}
 use mathlib.Core.List.{List, [], ◌∷◌, ◌++◌, map, append_assoc}
@@ -7,12 +8,10 @@ use native.Mathlib.Omega.{arith}
 use lib.ListN.{length, length-append}
 use borrow.Author.Tests.{le-ltb, eq-eqb}
 use Rattle.event.specs.declared.Record.{Record}
-use Rattle.event.specs.declared.Parsed.TheVariants.{Read}
 use Rattle.window.specs.Window.{bad_lines}
 use Rattle.records.specs.Record.{record_size, record_bytes}
 use Rattle.records.proofs.RoundTrip.{read_back}
 use Rattle.trailer.specs.declared.Trailer.{Trailer}
-use Rattle.trailer.specs.declared.Opened.TheVariants.{Known}
 use Rattle.trailer.specs.Trailer.{trailer_size, most_bytes, trailer_bytes, trailer_from, trailer_of, trailer_with, same_bytes, opened_of}
 use Rattle.trailer.proofs.Parts.{last_part, middle_part}
 use Rattle.trailer.proofs.Written.{trailer, trailer_read_back}
@@ -34,13 +33,13 @@ records_append (r ∷ rest) more =
     sym (append_assoc (record_bytes r.event r.site) (records_bytes rest) (records_bytes more))
 
 -- the bytes of records are read back
-records_read_back : (events : List Record) → records_of (length events) (records_bytes events) ≡ map Read events
+records_read_back : (events : List Record) → records_of (length events) (records_bytes events) ≡ map Ok events
 unfolding records_bytes records_of
 records_read_back [] = refl
 records_read_back (r ∷ rest) = λ i. read_back r.event r.site i ∷ records_read_back rest i
 
 -- the events of records that can be read
-events_of_records : (events : List Record) → events_of (map Read events) ≡ events
+events_of_records : (events : List Record) → events_of (map Ok events) ≡ events
 unfolding events_of
 events_of_records [] = refl
 events_of_records (r ∷ rest) = ap (λ (l : List Record). r ∷ l) (events_of_records rest)
@@ -70,7 +69,7 @@ module _ (free : List ℕ) (events : List Record) (lines : ℕ) where
   trailer_read = ap trailer_from trailer_bytes_lem ∙ trailer_read_back (length free) (length events) lines
 
   -- a trace of at most 65,536 bytes, of a window of 1 to 64 lines, is opened
-  pub trace_known : bad_lines lines ≡ false → length s ≤ most_bytes → opened_of s ≡ Known (trailer (length free) (length events) lines)
+  pub trace_known : bad_lines lines ≡ false → length s ≤ most_bytes → opened_of s ≡ Ok (trailer (length free) (length events) lines)
   unfolding opened_of same_bytes
   trace_known window few =
       rw (
@@ -83,7 +82,7 @@ module _ (free : List ℕ) (events : List Record) (lines : ℕ) where
       )
 
   -- its records, their events and its lines are read
-  pub records_read : records_in s ≡ map Read events
+  pub records_read : records_in s ≡ map Ok events
   records_read = rw (trailer_read, record_part_lem) (records_read_back events)
 
   pub events_read : events_in s ≡ events

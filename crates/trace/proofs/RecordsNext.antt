@@ -5,7 +5,7 @@ use Prim.Native.Nat.{ℕ, zero, suc, ◌+◌, ◌*◌}
 use native.Mathlib.Omega.{arith}
 use lib.ListN.{length, drop}
 use lib.Seq.{drop-drop}
-use Rattle.event.specs.declared.Parsed.{Parsed}
+use Rattle.event.specs.Answers.{Parsed}
 use Rattle.records.specs.Record.{record_size, parsed}
 use Rattle.trace.specs.Records.{records_of}
 use Rattle.trace.proofs.FirstBytes.{parsed_first}

@@ -1,8 +1,7 @@
 -- The records of a trace: the bytes from the offset up to the trailer, 12 to a record.
-use Rattle.std.specs.Prelude.{List, [], ◌∷◌, ℕ, zero, suc, ◌-◌, length, take, drop}
+use Rattle.std.specs.Prelude.{List, [], ◌∷◌, ℕ, zero, suc, ◌-◌, length, take, drop, Ok, Err}
 use Rattle.event.specs.declared.Record.{Record}
-use Rattle.event.specs.declared.Parsed.{Parsed}
-use Rattle.event.specs.declared.Parsed.TheVariants.{Read, Refused}
+use Rattle.event.specs.Answers.{Parsed}
 use Rattle.records.specs.Record.{record_size, parsed}
 use Rattle.trailer.specs.Trailer.{trailer_size, trailer_of}
 
@@ -18,8 +17,8 @@ records_of (suc n) s = parsed (take record_size s) ∷ records_of n (drop record
 -- the events of those that can be read, each with its site
 unfoldable pub events_of : List Parsed → List Record
 events_of [] = []
-events_of (Read r ∷ rest) = r ∷ events_of rest
-events_of (Refused x ∷ rest) = events_of rest
+events_of (Ok r ∷ rest) = r ∷ events_of rest
+events_of (Err x ∷ rest) = events_of rest
 
 -- the lines of a trace's window, its records, and their events
 abbrev pub lines_in : List ℕ → ℕ

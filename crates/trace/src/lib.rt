@@ -5,14 +5,7 @@ ghost use Rattle.std.specs.Prelude.{◌≡◌, ◌*◌, drop};
 ghost use Rattle.records.specs.Record.{record_size, parsed};
 ghost use Rattle.trace.specs.Records.{record_part};
 
-use event::{Parsed, Refusal};
-
-// What a check of all records says; `record` counts from 1, and is 0 at the closing. The judge makes its answer, a verdict, of it.
-#[derive(Clone, Copy)]
-pub enum TraceCheck {
-    Passed,
-    Refused { refusal: Refusal, record: u32 },
-}
+use event::{Record, Refusal};
 
 // The bytes from the offset up to the trailer; none where the offset is past them.
 pub fn part(s: &[u8], offset: u32) -> &[u8]
@@ -40,7 +33,7 @@ fn tail(s: &[u8], at: usize) -> &[u8]
 }
 
 // The record with so many before it, or the refusal 6 or 7.
-pub fn record_at(records: &[u8], before: u32) -> Parsed
+pub fn record_at(records: &[u8], before: u32) -> Result<Record, Refusal>
     ensures { result ≡ parsed (drop (record_size * before) records.now) }
 {
     let at = 12 * (before as usize);

@@ -1,28 +1,26 @@
 -- The mean exposure of a whole trace, read off its bytes, by what its accepted events say.
-use Rattle.std.specs.Prelude.{List, [], ◌∷◌, ℕ}
+use Rattle.std.specs.Prelude.{List, [], ◌∷◌, ℕ, Ok, Err}
 use Rattle.event.specs.Numbers.{number_of}
 use Rattle.event.specs.Reply.{Reply}
 use Rattle.history.specs.Interval.{interval_of}
-use Rattle.exposure.specs.declared.Exposed.{Exposed}
-use Rattle.exposure.specs.declared.Exposed.TheVariants.{Refused as NoMean, Mean as RunMean}
+use Rattle.exposure.specs.Answers.{Exposed, mean}
 use Rattle.exposure.specs.Exposure.{exposure_in, exposure_of}
-use Rattle.trace.specs.declared.TraceCheck.{TraceCheck}
-use Rattle.trace.specs.declared.TraceCheck.TheVariants.{Passed, Refused as RefusedAt}
+use Rattle.trace.specs.Answers.{TraceCheck}
 use Rattle.trace.specs.Records.{lines_in}
 use Rattle.verdict.specs.Verdict.{file_check, history_of}
 use Rattle.pass.specs.Pass.{Result}
-use Rattle.trace_exposure.specs.declared.TraceExposure.{TraceExposure}
-use Rattle.trace_exposure.specs.declared.TraceExposure.TheVariants.{Refused, Mean}
+use Rattle.trace_exposure.specs.Answers.{TraceExposure}
+use Rattle.event.specs.Answers.{refused_at}
 
 -- what a run answers: 17 names no record
 abbrev pub without_record : Exposed → TraceExposure
-without_record (NoMean x) = Refused x 0
-without_record (RunMean quotient remainder divisor) = Mean quotient remainder divisor
+without_record (Err x) = refused_at x 0
+without_record (Ok m) = Ok m
 
 -- after every other check, the answer of the run
 abbrev pub unless_refused : TraceCheck → Exposed → TraceExposure
-unless_refused (RefusedAt x n) e = Refused x n
-unless_refused Passed e = without_record e
+unless_refused (Err r) e = Err r
+unless_refused (Ok tt) e = without_record e
 
 unfoldable pub trace_exposure_of : List ℕ → TraceExposure
 trace_exposure_of trace = unless_refused (file_check trace) (exposure_in (lines_in trace) (interval_of (history_of trace)))
@@ -33,5 +31,5 @@ exposure_by e = unless_refused e.check (exposure_of e.stage.run)
 
 -- the answer in the paper's numbers
 abbrev pub trace_exposure_reply : TraceExposure → Reply
-trace_exposure_reply (Refused x n) = Reply.refused (number_of x) n
-trace_exposure_reply (Mean quotient remainder divisor) = Reply.values (quotient ∷ remainder ∷ divisor ∷ [])
+trace_exposure_reply (Err r) = Reply.refused (number_of r.refusal) r.at
+trace_exposure_reply (Ok m) = Reply.values (m.quotient ∷ m.remainder ∷ m.divisor ∷ [])

@@ -5,45 +5,30 @@ ghost use Rattle.std.specs.Prelude.{◌≡◌, []};
 ghost use Rattle.pass.specs.Pass.{all_judged};
 ghost use Rattle.trace_exposure.specs.TraceExposure.{without_record, exposure_by, trace_exposure_of};
 
-use event::Refusal;
-use exposure::Exposed;
-use trace::TraceCheck;
-use trailer::{Opened, opening};
-
-// A refusal with the number of its record from 1, or 0 where no record is meant; or the mean.
-#[derive(Clone, Copy)]
-pub enum TraceExposure {
-    Refused {
-        refusal: Refusal,
-        record: u32,
-    },
-    Mean {
-        quotient: u16,
-        remainder: u16,
-        divisor: u16,
-    },
-}
+use event::{Refusal, TraceRefusal};
+use exposure::Mean;
+use trailer::opening;
 
 // What the run after the records of a trace answers.
-fn answer(e: Exposed) -> TraceExposure
+fn answer(e: Result<Mean, Refusal>) -> Result<Mean, TraceRefusal>
     ensures { result ≡ without_record e }
 {
     match e {
-        Exposed::Refused(refusal) => TraceExposure::Refused { refusal, record: 0 },
-        Exposed::Mean {
+        Err(refusal) => Err(TraceRefusal { refusal: refusal, at: 0 }),
+        Ok(Mean {
             quotient,
             remainder,
             divisor,
-        } => TraceExposure::Mean {
+        }) => Ok(Mean {
             quotient,
             remainder,
             divisor,
-        },
+        }),
     }
 }
 
 // The records given to a fresh window, and the run after them asked. No finding is kept: the buffer has no byte.
-fn records_exposure(records: &[u8], count: u32, lines: u16) -> TraceExposure
+fn records_exposure(records: &[u8], count: u32, lines: u16) -> Result<Mean, TraceRefusal>
     ensures { result ≡ exposure_by (all_judged count lines records.now []) }
 {
     let mut stored = [0u16; 4096];
@@ -71,22 +56,19 @@ fn records_exposure(records: &[u8], count: u32, lines: u16) -> TraceExposure
     );
     let check = j.check;
     match check {
-        TraceCheck::Refused { refusal, record } => TraceExposure::Refused { refusal, record },
-        TraceCheck::Passed => answer(exposure::exposure_of(
+        Err(TraceRefusal { refusal, at: record }) => Err(TraceRefusal { refusal, at: record }),
+        Ok(()) => answer(exposure::exposure_of(
             j.counts, &stored, &fenced, &opened, &closed,
         )),
     }
 }
 
 // The mean exposure of a trace, or the first of 1 to 13 and 17 that applies.
-pub fn exposure(trace: &[u8]) -> TraceExposure
+pub fn exposure(trace: &[u8]) -> Result<Mean, TraceRefusal>
     ensures { result ≡ trace_exposure_of trace.now }
 {
     match opening::open(trace) {
-        Opened::Refused(x) => TraceExposure::Refused {
-            refusal: x,
-            record: 0,
-        },
-        Opened::Known(t) => records_exposure(trace::part(trace, t.offset), t.count, t.lines),
+        Err(x) => Err(TraceRefusal { refusal: x, at: 0 }),
+        Ok(t) => records_exposure(trace::part(trace, t.offset), t.count, t.lines),
     }
 }

@@ -4,7 +4,7 @@ use mathlib.Core.List.{List}
 use Prim.Native.Nat.{ℕ, zero, suc, ◌+◌, ◌*◌, ◌-◌, ◌≤◌, ◌<◌}
 use native.Mathlib.Omega.{arith}
 use lib.ListN.{drop}
-use Rattle.event.specs.declared.Parsed.{Parsed}
+use Rattle.event.specs.Answers.{Parsed}
 use Rattle.records.specs.Record.{record_size, parsed}
 use Rattle.trace.specs.Records.{records_of}
 use Rattle.trace.proofs.RecordsNext.{records_next}

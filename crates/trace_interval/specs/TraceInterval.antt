@@ -1,9 +1,8 @@
 -- The persist interval of a byte after all events of a trace, with the sites of the events that it names, read off the trace's bytes.
-use Rattle.std.specs.Prelude.{cond, List, [], ◌∷◌, ◌++◌, ℕ, zero, suc, pred, eqb, length}
+use Rattle.std.specs.Prelude.{cond, List, [], ◌∷◌, ◌++◌, ℕ, zero, suc, pred, eqb, length, Ok, Err}
 use Rattle.event.specs.declared.NamedInterval.{NamedInterval}
 use Rattle.event.specs.declared.NamedInterval.TheVariants.{None, Open, Closed}
-use Rattle.event.specs.declared.Parsed.{Parsed}
-use Rattle.event.specs.declared.Parsed.TheVariants.{Read, Refused as Unread}
+use Rattle.event.specs.Answers.{Parsed, refused_at}
 use Rattle.event.specs.declared.Refusal.TheVariants.{PastWindow}
 use Rattle.event.specs.Numbers.{number_of}
 use Rattle.event.specs.Reply.{Reply, named_values}
@@ -11,22 +10,19 @@ use Rattle.ranges.specs.Ranges.{is_past}
 use Rattle.history.specs.Count.{if_some}
 use Rattle.history.specs.History.{History}
 use Rattle.history.specs.Interval.{named_of}
-use Rattle.engine.specs.declared.Asked.{Asked}
-use Rattle.engine.specs.declared.Asked.TheVariants.{Refused as NotAsked, Known as RunKnows}
+use Rattle.engine.specs.Answers.{Asked}
 use Rattle.engine.specs.Call.{ask_of}
-use Rattle.trace.specs.declared.TraceCheck.{TraceCheck}
-use Rattle.trace.specs.declared.TraceCheck.TheVariants.{Passed, Refused as RefusedAt}
+use Rattle.trace.specs.Answers.{TraceCheck}
 use Rattle.trace.specs.Records.{lines_in, records_in}
 use Rattle.verdict.specs.Verdict.{file_check, history_of}
 use Rattle.pass.specs.Pass.{Result}
 use Rattle.trace_interval.specs.declared.Sites.{Sites}
-use Rattle.trace_interval.specs.declared.TraceInterval.{TraceInterval}
-use Rattle.trace_interval.specs.declared.TraceInterval.TheVariants.{Refused, Known}
+use Rattle.trace_interval.specs.Answers.{TraceInterval, sited}
 
 -- the site of a record
 abbrev pub site_of : Parsed → ℕ
-site_of (Read r) = r.site
-site_of (Unread x) = 0
+site_of (Ok r) = r.site
+site_of (Err x) = 0
 
 -- the site of the record with so many before it
 unfoldable pub site_after : List Parsed → ℕ → ℕ
@@ -54,17 +50,17 @@ sites_in records (Closed opened closed store back fence) = sites (site_in record
 
 -- a byte asked: 9 names no record
 abbrev pub with_sites : List Parsed → Asked → TraceInterval
-with_sites records (NotAsked x) = Refused x 0
-with_sites records (RunKnows i) = Known i (sites_in records i)
+with_sites records (Err x) = refused_at x 0
+with_sites records (Ok i) = sited i (sites_in records i)
 
 -- after every other check, the answer to the byte asked
 abbrev pub unless_refused : TraceCheck → TraceInterval → TraceInterval
-unless_refused (RefusedAt x n) answer = Refused x n
-unless_refused Passed answer = answer
+unless_refused (Err r) answer = Err r
+unless_refused (Ok tt) answer = answer
 
 -- 9 where the byte is past a window of so many lines, else its interval by the accepted events
 abbrev pub asked_after : (lines : ℕ) → History → ℕ → Asked
-asked_after lines h byte = cond (is_past lines (record { address = byte; length = 1 })) (NotAsked PastWindow) (RunKnows (named_of h byte))
+asked_after lines h byte = cond (is_past lines (record { address = byte; length = 1 })) (Err PastWindow) (Ok (named_of h byte))
 
 unfoldable pub trace_interval_of : List ℕ → ℕ → TraceInterval
 trace_interval_of trace byte = unless_refused (file_check trace) (with_sites (records_in trace) (asked_after (lines_in trace) (history_of trace) byte))
@@ -81,5 +77,5 @@ site_values (Closed opened closed store back fence) s = s.store ∷ s.back ∷ s
 
 -- the answer in the paper's numbers: the epochs, the events, and the sites of the events
 abbrev pub trace_interval_reply : TraceInterval → Reply
-trace_interval_reply (Refused x n) = Reply.refused (number_of x) n
-trace_interval_reply (Known i s) = Reply.values (named_values i ++ site_values i s)
+trace_interval_reply (Err r) = Reply.refused (number_of r.refusal) r.at
+trace_interval_reply (Ok k) = Reply.values (named_values k.interval ++ site_values k.interval k.sites)

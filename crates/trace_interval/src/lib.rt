@@ -6,11 +6,9 @@ ghost use Rattle.trace.specs.Records.{records_of};
 ghost use Rattle.pass.specs.Pass.{all_judged};
 ghost use Rattle.trace_interval.specs.TraceInterval.{site_in, sites_in, with_sites, interval_by, trace_interval_of};
 
-use engine::Asked;
-use event::{NamedInterval, Parsed, Refusal};
+use event::{NamedInterval, Refusal, TraceRefusal};
 use tables::Run;
-use trace::TraceCheck;
-use trailer::{Opened, opening};
+use trailer::opening;
 
 // The sites of the last store, of the first write-back after it and of the closing fence; 0 where the interval names none.
 #[derive(Clone, Copy)]
@@ -20,17 +18,11 @@ pub struct Sites {
     pub fence: u16,
 }
 
-// A refusal with the number of its record from 1, or 0 where no record is meant; or the byte's interval.
+// A byte's interval, with the sites of the events that it names.
 #[derive(Clone, Copy)]
-pub enum TraceInterval {
-    Refused {
-        refusal: Refusal,
-        record: u32,
-    },
-    Known {
-        interval: NamedInterval,
-        sites: Sites,
-    },
+pub struct SitedInterval {
+    pub interval: NamedInterval,
+    pub sites: Sites,
 }
 
 // The site of an event of an accepted trace, which is that of the record with its number.
@@ -45,8 +37,8 @@ fn site_of(records: &[u8], count: u32, event: u16) -> u16
         return 0;
     }
     match trace::record_at(records, n - 1) {
-        Parsed::Refused(_) => 0,
-        Parsed::Read(r) => r.site,
+        Err(_) => 0,
+        Ok(r) => r.site,
     }
 }
 
@@ -84,20 +76,20 @@ fn sites_of(records: &[u8], count: u32, i: NamedInterval) -> Sites
 }
 
 // What the run after the records of a trace answers, with the sites.
-fn answer(records: &[u8], count: u32, a: Asked) -> TraceInterval
+fn answer(records: &[u8], count: u32, a: Result<NamedInterval, Refusal>) -> Result<SitedInterval, TraceRefusal>
     ensures { result ≡ with_sites (records_of count records.now) a }
 {
     match a {
-        Asked::Refused(refusal) => TraceInterval::Refused { refusal, record: 0 },
-        Asked::Known(interval) => TraceInterval::Known {
+        Err(refusal) => Err(TraceRefusal { refusal: refusal, at: 0 }),
+        Ok(interval) => Ok(SitedInterval {
             interval,
             sites: sites_of(records, count, interval),
-        },
+        }),
     }
 }
 
 // The records given to a fresh window, and the run after them asked. No finding is kept: the buffer has no byte.
-fn records_interval(records: &[u8], count: u32, lines: u16, byte: u16) -> TraceInterval
+fn records_interval(records: &[u8], count: u32, lines: u16, byte: u16) -> Result<SitedInterval, TraceRefusal>
     ensures { result ≡
         interval_by (records_of count records.now) (all_judged count lines records.now []) byte }
 {
@@ -127,8 +119,8 @@ fn records_interval(records: &[u8], count: u32, lines: u16, byte: u16) -> TraceI
     let check = j.check;
     let counts = j.counts;
     match check {
-        TraceCheck::Refused { refusal, record } => TraceInterval::Refused { refusal, record },
-        TraceCheck::Passed => {
+        Err(TraceRefusal { refusal, at: record }) => Err(TraceRefusal { refusal, at: record }),
+        Ok(()) => {
             let run = Run {
                 counts,
                 stored,
@@ -146,15 +138,12 @@ fn records_interval(records: &[u8], count: u32, lines: u16, byte: u16) -> TraceI
 }
 
 // The interval of a byte after a trace, or the first of 1 to 13 that applies, and then 9 for a byte past the window.
-pub fn interval(trace: &[u8], byte: u16) -> TraceInterval
+pub fn interval(trace: &[u8], byte: u16) -> Result<SitedInterval, TraceRefusal>
     ensures { result ≡ trace_interval_of trace.now byte }
 {
     match opening::open(trace) {
-        Opened::Refused(x) => TraceInterval::Refused {
-            refusal: x,
-            record: 0,
-        },
-        Opened::Known(t) => {
+        Err(x) => Err(TraceRefusal { refusal: x, at: 0 }),
+        Ok(t) => {
             records_interval(trace::part(trace, t.offset), t.count, t.lines, byte)
         }
     }

@@ -1,4 +1,5 @@
 -- The limits 1 to 5 one after another, as the code tests them.
+use Rattle.std.specs.Prelude.{Ok, Err}
 use mathlib.Core.Path.{◌≡◌, ap, ◌∙◌}
 use mathlib.Core.Bool.{Bool, true, false}
 use mathlib.Core.List.{List}
@@ -9,7 +10,6 @@ use lib.ListN.{length, take, drop}
 use borrow.Author.Tests.{lt-ltb, le-ltb}
 use Rattle.event.specs.declared.Refusal.TheVariants.{TraceTooShort, TraceTooLong, MarkDiffers, BadLines, LengthDiffers}
 use Rattle.trailer.specs.declared.Trailer.{Trailer}
-use Rattle.trailer.specs.declared.Opened.TheVariants.{Refused, Known}
 use Rattle.trailer.specs.Trailer.{trailer_bytes, has_mark, trailer_from, trailer_of, bad_window, end_of, opened_of}
 use Rattle.trailer.proofs.Parts.{rest_taken}
 
@@ -30,12 +30,12 @@ module _ (s : List ℕ) where
   unfolding trailer_of
   short_trailer k read = let z : length s - 16 ≡ 0 = omega arith in rw z read
 
-  pub too_short : length s < 16 → Refused TraceTooShort ≡ opened_of s
+  pub too_short : length s < 16 → Err TraceTooShort ≡ opened_of s
   unfolding opened_of
   too_short k = rw (lt-ltb (length s) 16 k)
 
   module _ (enough : 16 ≤ length s) where
-    pub too_long : 65536 < length s → Refused TraceTooLong ≡ opened_of s
+    pub too_long : 65536 < length s → Err TraceTooLong ≡ opened_of s
     unfolding opened_of
     too_long k = rw (le-ltb (length s) 16 enough, lt-ltb 65536 (length s) k)
 
@@ -44,7 +44,7 @@ module _ (s : List ℕ) where
         is_mark : m ≡ has_mark (trailer_bytes s)
         is_mark = marked ∙ ap has_mark last16_is
 
-        pub mark_differs : m ≡ false → Refused MarkDiffers ≡ opened_of s
+        pub mark_differs : m ≡ false → Err MarkDiffers ≡ opened_of s
         unfolding opened_of
         mark_differs k = rw (le-ltb (length s) 16 enough, le-ltb 65536 (length s) few, ← is_mark, k)
 
@@ -52,15 +52,15 @@ module _ (s : List ℕ) where
           is_trailer : t ≡ trailer_of s
           is_trailer = last_trailer read
 
-          pub bad_lines_lem : {b : Bool} → b ≡ bad_window t → b ≡ true → Refused BadLines ≡ opened_of s
+          pub bad_lines_lem : {b : Bool} → b ≡ bad_window t → b ≡ true → Err BadLines ≡ opened_of s
           unfolding opened_of
           bad_lines_lem e k = rw (le-ltb (length s) 16 enough, le-ltb 65536 (length s) few, ← is_mark, same, ← is_trailer, ← e, k)
 
           module _ {b : Bool} (window : b ≡ bad_window t) (fine : b ≡ false) where
-            pub length_differs : {a : Bool} → a ≡ eqb (end_of t) (length s) → a ≡ false → Refused LengthDiffers ≡ opened_of s
+            pub length_differs : {a : Bool} → a ≡ eqb (end_of t) (length s) → a ≡ false → Err LengthDiffers ≡ opened_of s
             unfolding opened_of
             length_differs e k = rw (le-ltb (length s) 16 enough, le-ltb 65536 (length s) few, ← is_mark, same, ← is_trailer, ← window, fine, ← e, k)
 
-            pub opens : {a : Bool} → a ≡ eqb (end_of t) (length s) → a ≡ true → Known t ≡ opened_of s
+            pub opens : {a : Bool} → a ≡ eqb (end_of t) (length s) → a ≡ true → Ok t ≡ opened_of s
             unfolding opened_of
             opens e k = rw (le-ltb (length s) 16 enough, le-ltb 65536 (length s) few, ← is_mark, same, ← is_trailer, ← window, fine, ← e, k)

@@ -1,4 +1,5 @@
 -- What the check of a line count says of it, and what the limit 4 does.
+use Rattle.std.specs.Prelude.{Ok, Err}
 use mathlib.Core.Path.{◌≡◌, refl}
 use mathlib.Core.Bool.{Bool, true, false, cond, not}
 use Prim.Native.Nat.{ℕ, ◌≤◌}
@@ -7,23 +8,22 @@ use lib.Dec.{ltb, eqb}
 use borrow.Author.Tests.{eqb-true, ltb-false}
 use Rattle.event.specs.declared.Refusal.{Refusal}
 use Rattle.event.specs.declared.Refusal.TheVariants.{BadLines}
-use Rattle.event.specs.declared.Check.TheVariants.{Passed, Refused}
 use Rattle.window.specs.Window.{most_lines, bad_lines, lines_check}
 use Rattle.event.proofs.Bools.{contradiction, fails, fails_not, or_left, or_right, not_of}
 use Rattle.trailer.specs.declared.Trailer.{Trailer}
 use Rattle.trailer.specs.Trailer.{bad_window}
 
-pub lines_refused : (lines : ℕ) {x : Refusal} → lines_check lines ≡ Refused x → bad_lines lines ≡ true
+pub lines_refused : (lines : ℕ) {x : Refusal} → lines_check lines ≡ Err x → bad_lines lines ≡ true
 lines_refused lines {x} e = go (bad_lines lines) e
   where
-    go : (t : Bool) → cond t (Refused BadLines) Passed ≡ Refused x → t ≡ true
+    go : (t : Bool) → cond t (Err BadLines) (Ok tt) ≡ Err x → t ≡ true
     go true k = refl
     go false k = let z : ◌≡◌ {A = ℕ} 0 1 = cc in absurd (omega arith)
 
-pub lines_passed : (lines : ℕ) → lines_check lines ≡ Passed → bad_lines lines ≡ false
+pub lines_passed : (lines : ℕ) → lines_check lines ≡ (Ok tt) → bad_lines lines ≡ false
 lines_passed lines e = go (bad_lines lines) e
   where
-    go : (t : Bool) → cond t (Refused BadLines) Passed ≡ Passed → t ≡ false
+    go : (t : Bool) → cond t (Err BadLines) (Ok tt) ≡ (Ok tt) → t ≡ false
     go true k = let z : ◌≡◌ {A = ℕ} 0 1 = cc in absurd (omega arith)
     go false k = refl
 

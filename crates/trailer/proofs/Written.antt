@@ -1,4 +1,5 @@
 -- The trailer of a trace that is opened: the bytes that it is read from are those that the writer puts.
+use Rattle.std.specs.Prelude.{Ok, Err}
 use mathlib.Core.Path.{◌≡◌, refl, sym, ap, ap₂, ◌∙◌}
 use mathlib.Core.Bool.{true}
 use mathlib.Core.List.{List, [], ◌∷◌, ◌++◌}
@@ -6,14 +7,12 @@ use Prim.Native.Nat.{ℕ, ◌+◌, ◌-◌, ◌≤◌, ◌<◌}
 use native.Mathlib.Omega.{arith}
 use lib.ListN.{length, take, get_or, length-drop, take-append-drop}
 use lib.Seq.{get_or-drop}
-use Rattle.event.specs.declared.Check.{Check}
-use Rattle.event.specs.declared.Check.TheVariants.{Passed, Refused as Breaks}
+use Rattle.event.specs.Answers.{Check}
 use Rattle.codec.specs.Codec.{u16_at, u32_at, u16_bytes, u32_bytes}
 use Rattle.codec.proofs.Meaning.{u16_round_trip, u32_round_trip, u16_bytes_lem, u32_bytes_lem}
 use Rattle.history.specs.Refused.{first_broken, NoneBroken}
 use Rattle.limits.proofs.Passed.{passed_unbroken}
 use Rattle.trailer.specs.declared.Trailer.{Trailer}
-use Rattle.trailer.specs.declared.Opened.TheVariants.{Known}
 use Rattle.trailer.specs.Trailer.{trailer_size, mark, trailer_bytes, has_mark, trailer_from, trailer_of, trailer_with, file_limits, opened_for, opened_of}
 use Rattle.trailer.proofs.Parts.{entries, left_entries}
 use Rattle.trailer.proofs.SameBytes.{same_bytes_lem}
@@ -55,13 +54,13 @@ pub record WithinLimits (s : List ℕ) (t : Trailer) : Type 0 where
   pub limits : NoneBroken (file_limits s)
   pub trailer : trailer_of s ≡ t
 
-pub opened : (s : List ℕ) {t : Trailer} → opened_of s ≡ Known t → WithinLimits s t
+pub opened : (s : List ℕ) {t : Trailer} → opened_of s ≡ Ok t → WithinLimits s t
 unfolding opened_of
 opened s {t} e = go (first_broken (file_limits s)) refl e
   where
-    go : (c : Check) → first_broken (file_limits s) ≡ c → opened_for c (trailer_of s) ≡ Known t → WithinLimits s t
-    go Passed f k = record { limits = passed_unbroken (file_limits s) f; trailer = cc }
-    go (Breaks x) f k = let z : ◌≡◌ {A = ℕ} 0 1 = cc in absurd (omega arith)
+    go : (c : Check) → first_broken (file_limits s) ≡ c → opened_for c (trailer_of s) ≡ Ok t → WithinLimits s t
+    go (Ok tt) f k = record { limits = passed_unbroken (file_limits s) f; trailer = cc }
+    go (Err x) f k = let z : ◌≡◌ {A = ℕ} 0 1 = cc in absurd (omega arith)
 
 module _ (s : List ℕ) (small : (i : ℕ) → get_or s i 0 < 256) where
   -- the last 16 bytes are those of the trailer

@@ -1,8 +1,7 @@
 -- The trailer of a trace: the last 16 bytes, which point back to the records; and the limits 1 to 5.
-use Rattle.std.specs.Prelude.{Bool, true, false, not, ◌&&◌, ◌||◌, List, [], ◌∷◌, ◌++◌, ℕ, ◌+◌, ◌*◌, ◌-◌, eqb, ltb, length, take, drop}
+use Rattle.std.specs.Prelude.{Bool, true, false, not, ◌&&◌, ◌||◌, List, [], ◌∷◌, ◌++◌, ℕ, ◌+◌, ◌*◌, ◌-◌, eqb, ltb, length, take, drop, Ok, Err}
 use Rattle.event.specs.declared.Refusal.TheVariants.{TraceTooShort, TraceTooLong, MarkDiffers, BadLines, LengthDiffers}
-use Rattle.event.specs.declared.Check.{Check}
-use Rattle.event.specs.declared.Check.TheVariants.{Passed, Refused as Breaks}
+use Rattle.event.specs.Answers.{Check}
 use Rattle.event.specs.Numbers.{number_of}
 use Rattle.event.specs.Reply.{Reply}
 use Rattle.window.specs.Window.{bad_lines}
@@ -10,8 +9,7 @@ use Rattle.codec.specs.Codec.{u16_at, u32_at, u16_bytes, u32_bytes}
 use Rattle.records.specs.Record.{record_size}
 use Rattle.history.specs.Refused.{Limit, limit, first_broken}
 use Rattle.trailer.specs.declared.Trailer.{Trailer}
-use Rattle.trailer.specs.declared.Opened.{Opened}
-use Rattle.trailer.specs.declared.Opened.TheVariants.{Refused, Known}
+use Rattle.trailer.specs.Answers.{Opened}
 
 -- a trailer has 16 bytes, and a trace at most 65,536
 abbrev pub trailer_size : ℕ
@@ -66,16 +64,16 @@ file_limits s =
 
 -- the trailer, or the first of them that is broken
 abbrev pub opened_for : Check → Trailer → Opened
-opened_for Passed t = Known t
-opened_for (Breaks x) t = Refused x
+opened_for (Ok tt) t = Ok t
+opened_for (Err x) t = Err x
 
 unfoldable pub opened_of : List ℕ → Opened
 opened_of s = opened_for (first_broken (file_limits s)) (trailer_of s)
 
 -- a trailer read: offset, count, lines
 abbrev pub opened_reply : Opened → Reply
-opened_reply (Refused x) = Reply.refused (number_of x) 0
-opened_reply (Known t) = Reply.values (t.offset ∷ t.count ∷ t.lines ∷ [])
+opened_reply (Err x) = Reply.refused (number_of x) 0
+opened_reply (Ok t) = Reply.values (t.offset ∷ t.count ∷ t.lines ∷ [])
 
 -- a trailer as the writer puts it. That exactly these bytes are read as these fields says what the definitions above mean
 abbrev pub trailer_with : (offset count lines : ℕ) → List ℕ

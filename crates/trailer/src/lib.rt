@@ -1,8 +1,6 @@
 // The trailer of a trace file, and what refuses the file by it: the limits 1 to 5.
 #![tactic(auto)]
 
-use event::Refusal;
-
 pub mod opening; // the trailer read and checked
 
 // The trailer after its mark: where the first record is, how many there are, the window's lines, and a field that is 0.
@@ -12,11 +10,4 @@ pub struct Trailer {
     pub count: u32,
     pub lines: u16,
     pub zero: u16,
-}
-
-// What the end of a trace says.
-#[derive(Clone, Copy)]
-pub enum Opened {
-    Refused(Refusal),
-    Known(Trailer),
 }

@@ -2,8 +2,8 @@
 ghost use Rattle.std.specs.Prelude.{◌≡◌, ◌≤◌, eqb, length};
 ghost use Rattle.trailer.specs.Trailer.{same_bytes, has_mark, trailer_from, trailer_of, bad_window, end_of, opened_of};
 
-use crate::{Opened, Trailer};
-use event::{Check, Refusal};
+use crate::Trailer;
+use event::Refusal;
 
 // Whether two strings have the same bytes.
 fn same_bytes(a: &[u8], b: &[u8]) -> bool
@@ -58,8 +58,8 @@ fn is_bad_window(t: Trailer) -> bool
     ensures { result ≡ bad_window t }
 {
     match window::check_lines(t.lines) {
-        Check::Refused(_) => true,
-        Check::Passed => t.zero != 0,
+        Err(_) => true,
+        Ok(()) => t.zero != 0,
     }
 }
 
@@ -71,26 +71,26 @@ fn ends_at(t: Trailer, len: usize) -> bool
 }
 
 // The trailer, or the first of the limits 1 to 5 that the trace breaks.
-pub fn open(s: &[u8]) -> Opened
+pub fn open(s: &[u8]) -> Result<Trailer, Refusal>
     ensures { result ≡ opened_of s.now }
 {
     if s.len() < 16 {
-        return Opened::Refused(Refusal::TraceTooShort);
+        return Err(Refusal::TraceTooShort);
     }
     if 65536 < s.len() {
-        return Opened::Refused(Refusal::TraceTooLong);
+        return Err(Refusal::TraceTooLong);
     }
     let at = s.len() - 16;
     let bytes = &s[at..];
     if !has_mark(bytes) {
-        return Opened::Refused(Refusal::MarkDiffers);
+        return Err(Refusal::MarkDiffers);
     }
     let t = read_trailer(bytes);
     if is_bad_window(t) {
-        return Opened::Refused(Refusal::BadLines);
+        return Err(Refusal::BadLines);
     }
     if !ends_at(t, s.len()) {
-        return Opened::Refused(Refusal::LengthDiffers);
+        return Err(Refusal::LengthDiffers);
     }
-    Opened::Known(t)
+    Ok(t)
 }

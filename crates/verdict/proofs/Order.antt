@@ -1,4 +1,5 @@
 -- The checks of a trace in their order: the trailer, the area, the records.
+use Rattle.std.specs.Prelude.{Ok, Err}
 use mathlib.Core.Path.{◌≡◌, refl, ap, ◌∙◌}
 use mathlib.Core.Bool.{Bool, true, false, cond}
 use mathlib.Core.Logic.{◌⊎◌, inl, inr}
@@ -10,15 +11,12 @@ use lib.ListN.{length}
 use borrow.Author.Tests.{lt-ltb, le-ltb, ltb-false, eqb-true, not-false}
 use Rattle.event.specs.declared.Refusal.{Refusal}
 use Rattle.event.specs.declared.Refusal.TheVariants.{AreaTooShort}
-use Rattle.event.specs.declared.Check.{Check}
-use Rattle.event.specs.declared.Check.TheVariants.{Passed as Fits, Refused as Breaks}
+use Rattle.event.specs.Answers.{Check, refused_at}
 use Rattle.window.specs.Window.{most_lines}
 use Rattle.history.specs.Refused.{Limit, first_broken, NoneBroken}
 use Rattle.history.proofs.Given.{none_broken}
 use Rattle.trailer.specs.declared.Trailer.{Trailer}
-use Rattle.trailer.specs.declared.Opened.TheVariants.{Refused as NotOpened, Known}
-use Rattle.trace.specs.declared.TraceCheck.{TraceCheck}
-use Rattle.trace.specs.declared.TraceCheck.TheVariants.{Passed, Refused as RefusedAt}
+use Rattle.trace.specs.Answers.{TraceCheck}
 use Rattle.trailer.specs.Trailer.{most_bytes, trailer_of, end_of, file_limits, opened_for, opened_of}
 use Rattle.trace.specs.Records.{lines_in, records_in}
 use Rattle.trace.specs.Checked.{unless_broken, check_all}
@@ -28,52 +26,52 @@ use Rattle.verdict.specs.Verdict.{area_size, area_limits, trace_limits, trace_ch
 use Rattle.codec.specs.Codec.{finding_size}
 
 -- where a check and the rest after it pass, both do
-pub unless_passed : (c : Check) (n : ℕ) (rest : TraceCheck) → unless_broken c n rest ≡ Passed → (c ≡ Fits) × (rest ≡ Passed)
-unless_passed Fits n rest e = (refl, e)
-unless_passed (Breaks x) n rest e = let z : ◌≡◌ {A = ℕ} 0 1 = cc in absurd (omega arith)
+pub unless_passed : (c : Check) (n : ℕ) (rest : TraceCheck) → unless_broken c n rest ≡ (Ok tt) → (c ≡ (Ok tt)) × (rest ≡ (Ok tt))
+unless_passed (Ok tt) n rest e = (refl, e)
+unless_passed (Err x) n rest e = let z : ◌≡◌ {A = ℕ} 0 1 = cc in absurd (omega arith)
 
 -- the first of more limits that is broken is the first of the first ones, if one of those is broken
-broken_first : (xs ys : List Limit) {x : Refusal} → first_broken xs ≡ Breaks x → first_broken (xs ++ ys) ≡ Breaks x
+broken_first : (xs ys : List Limit) {x : Refusal} → first_broken xs ≡ Err x → first_broken (xs ++ ys) ≡ Err x
 broken_first [] ys e = let z : ◌≡◌ {A = ℕ} 0 1 = cc in absurd (omega arith)
 broken_first (l ∷ xs) ys {x} e = go l.broken e (λ k. broken_first xs ys k)
   where
-    go : (b : Bool) → cond b (Breaks l.number) (first_broken xs) ≡ Breaks x → (first_broken xs ≡ Breaks x → first_broken (xs ++ ys) ≡ Breaks x) →
-        cond b (Breaks l.number) (first_broken (xs ++ ys)) ≡ Breaks x
+    go : (b : Bool) → cond b (Err l.number) (first_broken xs) ≡ Err x → (first_broken xs ≡ Err x → first_broken (xs ++ ys) ≡ Err x) →
+        cond b (Err l.number) (first_broken (xs ++ ys)) ≡ Err x
     go true k rest = k
     go false k rest = rest k
 
 -- and else the first of the others
-broken_later : (xs ys : List Limit) → first_broken xs ≡ Fits → first_broken (xs ++ ys) ≡ first_broken ys
+broken_later : (xs ys : List Limit) → first_broken xs ≡ (Ok tt) → first_broken (xs ++ ys) ≡ first_broken ys
 broken_later [] ys e = refl
 broken_later (l ∷ xs) ys e = go l.broken e (λ k. broken_later xs ys k)
   where
-    go : (b : Bool) → cond b (Breaks l.number) (first_broken xs) ≡ Fits → (first_broken xs ≡ Fits → first_broken (xs ++ ys) ≡ first_broken ys) →
-        cond b (Breaks l.number) (first_broken (xs ++ ys)) ≡ first_broken ys
+    go : (b : Bool) → cond b (Err l.number) (first_broken xs) ≡ (Ok tt) → (first_broken xs ≡ (Ok tt) → first_broken (xs ++ ys) ≡ first_broken ys) →
+        cond b (Err l.number) (first_broken (xs ++ ys)) ≡ first_broken ys
     go true k rest = let z : ◌≡◌ {A = ℕ} 0 1 = cc in absurd (omega arith)
     go false k rest = rest k
 
 module _ (s area : List ℕ) where
   -- a trailer that is refused is so by the first limit that is broken
-  pub not_opened : {x : Refusal} → opened_of s ≡ NotOpened x → first_broken (file_limits s) ≡ Breaks x
+  pub not_opened : {x : Refusal} → opened_of s ≡ Err x → first_broken (file_limits s) ≡ Err x
   unfolding opened_of
   not_opened {x} e = go (first_broken (file_limits s)) e
     where
-      go : (c : Check) → opened_for c (trailer_of s) ≡ NotOpened x → c ≡ Breaks x
-      go Fits k = let z : ◌≡◌ {A = ℕ} 0 1 = cc in absurd (omega arith)
-      go (Breaks y) k = cc
+      go : (c : Check) → opened_for c (trailer_of s) ≡ Err x → c ≡ Err x
+      go (Ok tt) k = let z : ◌≡◌ {A = ℕ} 0 1 = cc in absurd (omega arith)
+      go (Err y) k = cc
 
   -- the trailer is refused
-  pub refused_trailer : {x : Refusal} → opened_of s ≡ NotOpened x → trace_check s area ≡ RefusedAt x 0
+  pub refused_trailer : {x : Refusal} → opened_of s ≡ Err x → trace_check s area ≡ refused_at x 0
   refused_trailer k =
       ap (λ (c : Check). unless_broken c 0 (check_all (lines_in s) (records_in s))) (broken_first (file_limits s) (area_limits s area) (not_opened k))
 
-  module _ {t : Trailer} (known : opened_of s ≡ Known t) where
+  module _ {t : Trailer} (known : opened_of s ≡ Ok t) where
     -- the limits 1 to 5 pass
     limits_pass : first_broken (trace_limits s area) ≡ first_broken (area_limits s area)
     limits_pass = broken_later (file_limits s) (area_limits s area) (none_broken (opened s known).limits)
 
     -- the area is too short
-    pub refused_area : length area < finding_size * t.count → trace_check s area ≡ RefusedAt AreaTooShort 0
+    pub refused_area : length area < finding_size * t.count → trace_check s area ≡ refused_at AreaTooShort 0
     refused_area k = rw (limits_pass, (opened s known).trailer, lt-ltb (length area) (finding_size * t.count) k)
 
     -- else the records decide
@@ -101,7 +99,7 @@ module _ (s area : List ℕ) where
 
 -- the area aside, a trace is refused by its file and its records alone
 pub area_aside : (s area : List ℕ) →
-    (trace_check s area ≡ unless_broken (first_broken (file_limits s)) 0 (check_all (lines_in s) (records_in s))) ⊎ (trace_check s area ≡ RefusedAt AreaTooShort 0)
+    (trace_check s area ≡ unless_broken (first_broken (file_limits s)) 0 (check_all (lines_in s) (records_in s))) ⊎ (trace_check s area ≡ refused_at AreaTooShort 0)
 area_aside s area = go (first_broken (file_limits s)) refl (ltb (length area) (area_size s)) refl
   where
     rest : TraceCheck
@@ -111,7 +109,7 @@ area_aside s area = go (first_broken (file_limits s)) refl (ltb (length area) (a
     decides c e = ap (λ (c : Check). unless_broken c 0 rest) e
 
     go : (c : Check) → first_broken (file_limits s) ≡ c → (short : Bool) → ltb (length area) (area_size s) ≡ short →
-        (trace_check s area ≡ unless_broken c 0 rest) ⊎ (trace_check s area ≡ RefusedAt AreaTooShort 0)
-    go (Breaks x) e short a = inl (decides (Breaks x) (broken_first (file_limits s) (area_limits s area) e))
-    go Fits e true a = inr (decides (Breaks AreaTooShort) (broken_later (file_limits s) (area_limits s area) e ∙ (rw a)))
-    go Fits e false a = inl (decides Fits (broken_later (file_limits s) (area_limits s area) e ∙ (rw a)))
+        (trace_check s area ≡ unless_broken c 0 rest) ⊎ (trace_check s area ≡ refused_at AreaTooShort 0)
+    go (Err x) e short a = inl (decides (Err x) (broken_first (file_limits s) (area_limits s area) e))
+    go (Ok tt) e true a = inr (decides (Err AreaTooShort) (broken_later (file_limits s) (area_limits s area) e ∙ (rw a)))
+    go (Ok tt) e false a = inl (decides (Ok tt) (broken_later (file_limits s) (area_limits s area) e ∙ (rw a)))

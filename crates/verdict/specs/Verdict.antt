@@ -1,10 +1,9 @@
 -- What the judge answers to a trace and a findings area, and what the area then holds: read off the bytes, by what the accepted
 -- events say.
-use Rattle.std.specs.Prelude.{List, [], ◌∷◌, ◌++◌, ℕ, ◌*◌, ltb, length, drop}
+use Rattle.std.specs.Prelude.{List, [], ◌∷◌, ◌++◌, ℕ, ◌*◌, ltb, length, drop, Ok, Err}
 use Rattle.event.specs.declared.Record.{Record}
 use Rattle.event.specs.declared.Refusal.TheVariants.{AreaTooShort}
-use Rattle.event.specs.declared.Answer.{Answer}
-use Rattle.event.specs.declared.Answer.TheVariants.{Refused as NoFinding, Found}
+use Rattle.event.specs.Answers.{Answer, refused_at, totals}
 use Rattle.event.specs.Numbers.{number_of}
 use Rattle.event.specs.Reply.{Reply}
 use Rattle.codec.specs.Codec.{finding_size, finding_bytes}
@@ -12,13 +11,11 @@ use Rattle.history.specs.History.{History}
 use Rattle.history.specs.Interval.{epoch_at}
 use Rattle.history.specs.Refused.{Limit, limit, first_broken}
 use Rattle.history.specs.Given.{accepted, answers, reported}
-use Rattle.trace.specs.declared.TraceCheck.{TraceCheck}
-use Rattle.trace.specs.declared.TraceCheck.TheVariants.{Passed, Refused as RefusedAt}
+use Rattle.trace.specs.Answers.{TraceCheck}
 use Rattle.trailer.specs.Trailer.{trailer_of, file_limits}
 use Rattle.trace.specs.Records.{lines_in, records_in, events_in}
 use Rattle.trace.specs.Checked.{unless_broken, check_all}
-use Rattle.verdict.specs.declared.Verdict.{Verdict}
-use Rattle.verdict.specs.declared.Verdict.TheVariants.{Refused, Accepted}
+use Rattle.verdict.specs.Answers.{Verdict}
 
 -- the findings area takes 12 times the count
 abbrev pub area_size : List ℕ → ℕ
@@ -49,21 +46,21 @@ answers_of trace = answers (lines_in trace) [] (events_in trace)
 
 -- a refusal with its record's number, or events, fences and the count of findings other than none
 abbrev pub verdict_for : TraceCheck → (h : History) → List Answer → Verdict
-verdict_for (RefusedAt x n) h found = Refused x n
-verdict_for Passed h found = Accepted (length h) (epoch_at h (length h)) (reported found)
+verdict_for (Err r) h found = Err r
+verdict_for (Ok tt) h found = totals (length h) (epoch_at h (length h)) (reported found)
 
 unfoldable pub verdict_of : (trace area : List ℕ) → Verdict
 verdict_of trace area = verdict_for (trace_check trace area) (history_of trace) (answers_of trace)
 
 -- a trace: the refusal's number and its record's number, or events, fences and the count of findings other than none
 abbrev pub verdict_reply : Verdict → Reply
-verdict_reply (Refused x n) = Reply.refused (number_of x) n
-verdict_reply (Accepted events fences findings) = Reply.values (events ∷ fences ∷ findings ∷ [])
+verdict_reply (Err r) = Reply.refused (number_of r.refusal) r.at
+verdict_reply (Ok t) = Reply.values (t.events ∷ t.fences ∷ t.findings ∷ [])
 
 -- the bytes of an event's finding, with its site
 abbrev pub bytes_for : Record → Answer → List ℕ
-bytes_for r (Found f) = finding_bytes f r.site
-bytes_for r (NoFinding x) = []
+bytes_for r (Ok f) = finding_bytes f r.site
+bytes_for r (Err x) = []
 
 -- the findings of events, in order
 unfoldable pub findings_bytes : List Record → List Answer → List ℕ
@@ -73,8 +70,8 @@ findings_bytes (r ∷ rest) (a ∷ found) = bytes_for r a ++ findings_bytes rest
 
 -- a refused trace leaves the area as it was; an accepted one fills 12 × count bytes, and the bytes beyond do not change
 abbrev pub area_for : TraceCheck → (trace area : List ℕ) → List ℕ
-area_for (RefusedAt x n) trace area = area
-area_for Passed trace area = findings_bytes (events_in trace) (answers_of trace) ++ drop (area_size trace) area
+area_for (Err r) trace area = area
+area_for (Ok tt) trace area = findings_bytes (events_in trace) (answers_of trace) ++ drop (area_size trace) area
 
 unfoldable pub area_after : (trace area : List ℕ) → List ℕ
 area_after trace area = area_for (trace_check trace area) trace area

@@ -1,8 +1,7 @@
 -- The window: its size, its lines and words, and the limit 4.
-use Rattle.std.specs.Prelude.{Bool, cond, ◌||◌, ℕ, ◌*◌, ◌/◌, ltb, eqb}
+use Rattle.std.specs.Prelude.{Bool, cond, ◌||◌, ℕ, ◌*◌, ◌/◌, ltb, eqb, Ok, Err}
 use Rattle.event.specs.declared.Refusal.TheVariants.{BadLines}
-use Rattle.event.specs.declared.Check.{Check}
-use Rattle.event.specs.declared.Check.TheVariants.{Passed, Refused}
+use Rattle.event.specs.Answers.{Check}
 
 -- a line has 64 bytes, and a window 1 to 64 lines
 abbrev pub line_bytes : ℕ
@@ -37,4 +36,4 @@ bad_lines lines = eqb lines 0 || ltb most_lines lines
 
 -- 4: so many lines are no window
 abbrev pub lines_check : ℕ → Check
-lines_check lines = cond (bad_lines lines) (Refused BadLines) Passed
+lines_check lines = cond (bad_lines lines) (Err BadLines) (Ok tt)

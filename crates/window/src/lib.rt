@@ -4,7 +4,7 @@
 ghost use Rattle.std.specs.Prelude.{◌≡◌};
 ghost use Rattle.window.specs.Window.{window_bytes, line_of, line_start, lines_check};
 
-use event::{Check, Refusal};
+use event::Refusal;
 
 // The start address of a line: 64 times its number, and 0 beyond the largest window.
 pub fn line_start(line: u16) -> u16
@@ -28,12 +28,12 @@ pub fn line_of(byte: u16) -> u16
 }
 
 // The limit 4 on a line count.
-pub fn check_lines(lines: u16) -> Check
+pub fn check_lines(lines: u16) -> Result<(), Refusal>
     ensures { result ≡ lines_check lines }
 {
     if lines == 0 || 64 < lines {
-        Check::Refused(Refusal::BadLines)
+        Err(Refusal::BadLines)
     } else {
-        Check::Passed
+        Ok(())
     }
 }

@@ -1,25 +1,25 @@
 // The writer of a trace file, over an area that the caller lends and does not write to in between.
 #![tactic(auto)]
 
-ghost use Rattle.std.specs.Prelude.{◌≡◌, ◌<◌};
+ghost use Rattle.std.specs.Prelude.{◌≡◌, ◌<◌, Ok};
 ghost use Rattle.history.specs.Transaction.{depth_after};
 ghost use Rattle.history.specs.Refused.{refusal_by};
 ghost use Rattle.file.specs.Write.{view_of, started_of, area_started, writer_after, written_for, written_of, area_written};
 ghost use Rattle.file.specs.Write.{unread_check, parsed_written_of, area_parsed_written, bytes_written_of, area_bytes_written, closed_of, area_closed};
 
-use event::{Check, Event, Parsed, Record, Refusal};
-use file::{Closed, Started, Writer, Written};
+use event::{Event, Record, Refusal};
+use file::{Writer, Written};
 
 // Starts a file: its preamble goes to the area's start. Refused by the first of 4, 2, 15 that applies, and the area as it was.
-pub fn start(area: &mut [u8], preamble: &[u8], lines: u16) -> Started
+pub fn start(area: &mut [u8], preamble: &[u8], lines: u16) -> Result<Writer, Refusal>
     ensures value { result ≡ started_of area.old preamble.now lines }
     ensures area_after { area.new ≡ area_started area.old preamble.now lines }
 {
     match file_limits::check_start(area.len(), preamble.len(), lines) {
-        Check::Refused(x) => Started::Refused(x),
-        Check::Passed => {
+        Err(x) => Err(x),
+        Ok(()) => {
             codec::put(area, 0, preamble);
-            Started::Ready(Writer {
+            Ok(Writer {
                 lines,
                 offset: preamble.len() as u32,
                 count: 0,
@@ -31,7 +31,7 @@ pub fn start(area: &mut [u8], preamble: &[u8], lines: u16) -> Started
 
 // The transactions open after an event that no limit refuses.
 fn depth_after(w: Writer, e: Event) -> u16
-    requires { refusal_by (view_of w) e ≡ Check.Passed }
+    requires { refusal_by (view_of w) e ≡ (Ok tt) }
     ensures { result ≡ depth_after e w.depth }
 {
     match e {
@@ -48,7 +48,7 @@ fn depth_after(w: Writer, e: Event) -> u16
 
 // The writer after an event that no limit refuses.
 fn next(w: Writer, e: Event) -> Writer
-    requires { (refusal_by (view_of w) e ≡ Check.Passed) × (w.count < 65536) }
+    requires { (refusal_by (view_of w) e ≡ (Ok tt)) × (w.count < 65536) }
     ensures { result ≡ writer_after w e }
 {
     Writer {
@@ -67,15 +67,15 @@ pub fn write(area: &mut [u8], w: Writer, r: Record) -> Written
 {
     let e = r.event;
     match file_limits::check_write(area.len(), w, e) {
-        Check::Refused(x) => Written {
-            check: Check::Refused(x),
+        Err(x) => Written {
+            check: Err(x),
             writer: w,
         },
-        Check::Passed => {
+        Ok(()) => {
             let bytes = layout::record_bytes(r);
             codec::put(area, file_limits::records_end(w), &bytes);
             Written {
-                check: Check::Passed,
+                check: Ok(()),
                 writer: next(w, e),
             }
         }
@@ -87,21 +87,21 @@ fn unread(w: Writer, x: Refusal) -> Written
     ensures { result ≡ written_for (unread_check w x) w Event.Fence }
 {
     let check = if file_limits::is_full(w) {
-        Check::Refused(Refusal::TraceTooLong)
+        Err(Refusal::TraceTooLong)
     } else {
-        Check::Refused(x)
+        Err(x)
     };
     Written { check, writer: w }
 }
 
 // Writes an event as it was read: what refused its reading, 6 or 7, is looked at after 2 and before 9.
-pub fn write_parsed(area: &mut [u8], w: Writer, p: Parsed) -> Written
+pub fn write_parsed(area: &mut [u8], w: Writer, p: Result<Record, Refusal>) -> Written
     ensures value { result ≡ parsed_written_of area.old w p }
     ensures area_after { area.new ≡ area_parsed_written area.old w p }
 {
     match p {
-        Parsed::Refused(x) => unread(w, x),
-        Parsed::Read(r) => write(area, w, r),
+        Err(x) => unread(w, x),
+        Ok(r) => write(area, w, r),
     }
 }
 
@@ -115,20 +115,20 @@ pub fn write_bytes(area: &mut [u8], w: Writer, bytes: &[u8]) -> Written
 
 // Closes the file: the trailer goes behind the last record. Refused by 13 or else by 15, and the area as it was. The writer does not
 // change: an event written afterwards takes the trailer's place.
-pub fn close(area: &mut [u8], w: Writer) -> Closed
+pub fn close(area: &mut [u8], w: Writer) -> Result<usize, Refusal>
     ensures value { result ≡ closed_of area.old w }
     ensures area_after { area.new ≡ area_closed area.old w }
 {
     if w.depth != 0 {
-        return Closed::Refused(Refusal::TransactionOpen);
+        return Err(Refusal::TransactionOpen);
     }
     let at = file_limits::records_end(w);
     match file_limits::check_room(area.len(), at + 16) {
-        Check::Refused(x) => Closed::Refused(x),
-        Check::Passed => {
+        Err(x) => Err(x),
+        Ok(()) => {
             let bytes = layout::trailer_bytes(w.offset, w.count, w.lines);
             codec::put(area, at, &bytes);
-            Closed::File(at + 16)
+            Ok(at + 16)
         }
     }
 }

@@ -1,11 +1,10 @@
 -- The writer and its area after a call that is read from bytes.
-use Rattle.std.specs.Prelude.{ℕ, zero, suc, ◌+◌, ◌*◌, ◌%◌, min, Bool, cond, ◌||◌, List, [], ◌∷◌, ◌++◌, length, take, drop, ◌==◌, nat_le, slice_index, slice_index_or, slice_set}
+use Rattle.std.specs.Prelude.{ℕ, zero, suc, ◌+◌, ◌*◌, ◌%◌, min, Bool, cond, ◌||◌, List, [], ◌∷◌, ◌++◌, length, take, drop, ◌==◌, nat_le, slice_index, slice_index_or, slice_set, Ok, Err}
 use Rattle.codec.specs.Codec.{u16_at, u32_at}
 use Rattle.codec.specs.Placed.{placed}
 use Rattle.records.specs.Record.{record_size, padded}
 use Rattle.file.specs.declared.Writer.{Writer}
-use Rattle.file.specs.declared.Started.{Started}
-use Rattle.file.specs.declared.Started.TheVariants.{Refused, Ready}
+use Rattle.file.specs.Answers.{Started}
 use Rattle.file.specs.Write.{writer_with, started_of, area_started, bytes_written_of, area_bytes_written, area_closed}
 
 -- the writer of any numbers in a call
@@ -14,8 +13,8 @@ writer_of s = writer_with (u16_at s 2) (u32_at s 4) (u32_at s 8) (slice_index s 
 
 -- a refused start leaves the writer as it was
 abbrev pub after_start : Started → Writer → Writer
-after_start (Ready next) w = next
-after_start (Refused x) w = w
+after_start (Ok next) w = next
+after_start (Err x) w = w
 
 -- the record in a call
 abbrev pub record_in : List ℕ → List ℕ

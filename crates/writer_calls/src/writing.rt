@@ -5,8 +5,8 @@ ghost use Rattle.file.specs.Write.{started_of, area_started, bytes_written_of, a
 ghost use Rattle.writer_calls.specs.Writing.{writer_of, after_start, record_in, is_answered, writer_after_call, area_after_call};
 
 use crate::changes;
-use event::Check;
-use file::{Started, Writer};
+use event::Refusal;
+use file::Writer;
 use std::io::Write;
 
 // The writer in the 12 bytes of a call.
@@ -22,13 +22,13 @@ fn writer_of(bytes: &[u8]) -> Writer
 }
 
 // A start with so many lines, and its answer; the line goes on.
-fn print_start<W: Write>(out: &mut W, lines: u16, s: Started) {
+fn print_start<W: Write>(out: &mut W, lines: u16, s: Result<Writer, Refusal>) {
     call_lines::field(out, b"start ", lines);
     call_lines::reply(out, replies::of_started(s));
 }
 
 // An event written, and its answer; the line goes on.
-fn print_write<W: Write>(out: &mut W, bytes: &[u8], c: Check) {
+fn print_write<W: Write>(out: &mut W, bytes: &[u8], c: Result<(), Refusal>) {
     call_lines::record(out, b"write ", bytes);
     call_lines::reply(out, replies::of_check(c));
 }
@@ -41,8 +41,8 @@ fn start<W: Write>(out: &mut W, area: &mut [u8], preamble: &[u8], w: Writer, lin
     let s = writer::start(area, preamble, lines);
     print_start(out, lines, s);
     match s {
-        Started::Refused(_) => w,
-        Started::Ready(next) => next,
+        Err(_) => w,
+        Ok(next) => next,
     }
 }
 

@@ -1,8 +1,8 @@
 -- Kind by kind: the limits keep the numbers and the ranges within the tables, and what each kind's function ensures is what is taken.
+use Rattle.std.specs.Prelude.{Ok}
 use Rattle.std.proofs.Common.{◌≡◌, ◌<◌, ◌≤◌, List, [], ◌∷◌, ap, sym, ◌∙◌}
 use Rattle.event.specs.declared.Range.{Range}
 use Rattle.event.specs.declared.Event.{Event}
-use Rattle.event.specs.declared.Check.TheVariants.{Passed}
 use Rattle.ranges.specs.Ranges.{range_end, ranges_of}
 use Rattle.history.specs.Refused.{refusal_by}
 use Rattle.limits.proofs.Passed.{begin_below, end_inside}
@@ -13,14 +13,14 @@ use Rattle.events.proofs.Steps.{store_taken, back_taken, fence_taken, begin_take
 use Rattle.events.proofs.accept.Goals as goal
 
 -- an event that no limit refuses
-module _ (counts : Counts) (e : Event) (passed : refusal_by (limits_of counts) e ≡ Passed) where
+module _ (counts : Counts) (e : Event) (passed : refusal_by (limits_of counts) e ≡ (Ok tt)) where
   room : counts.events < 65535
   room = (passes counts e passed).room
 
   one_range : (a : Range) (rest : List Range) → ranges_of e ≡ a ∷ rest → (counts.events < 65535) × (range_end a ≤ 4096)
   one_range a rest k = (room, first_range counts e a rest k passed)
 
-  taken : {d : Event} → e ≡ d → refusal_by (limits_of counts) d ≡ Passed
+  taken : {d : Event} → e ≡ d → refusal_by (limits_of counts) d ≡ Ok tt
   taken k = sym (ap (refusal_by (limits_of counts)) k) ∙ passed
 
 pub store-requires : goal.store-requires

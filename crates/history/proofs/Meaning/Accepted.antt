@@ -1,4 +1,5 @@
 -- The accepted part of the events given, in plain words.
+use Rattle.std.specs.Prelude.{Ok, Err}
 use mathlib.Core.Path.{◌≡◌, ap}
 use mathlib.Core.List.{List, [], ◌∷◌}
 use Prim.Native.Nat.{ℕ, ◌≤◌}
@@ -7,9 +8,7 @@ use lib.ListN.{length}
 use borrow.Author.Tests.{leb-false}
 use Rattle.event.specs.declared.Record.{Record}
 use Rattle.event.specs.declared.Refusal.{Refusal}
-use Rattle.event.specs.declared.Answer.{Answer}
-use Rattle.event.specs.declared.Check.{Check}
-use Rattle.event.specs.declared.Check.TheVariants.{Passed, Refused as Breaks}
+use Rattle.event.specs.Answers.{Answer, Check}
 use Rattle.history.specs.History.{History}
 use Rattle.history.specs.View.{of_history}
 use Rattle.history.specs.Refused.{limits_by, NoneBroken, first_broken}
@@ -39,8 +38,8 @@ accepted_taken lines h (r ∷ given) t = go (first_broken (limits_by (of_history
   where
     go : (c : Check) → Checked (limits_by (of_history lines h) r.event) c → Taken lines (accepted lines h given) →
         (Taken lines (r ∷ h) → Taken lines (accepted lines (r ∷ h) given)) → Taken lines (accepted lines h (r ∷ given))
-    go Passed (Checked.none k) refused added = rw (takes_in lines h r given k) (added (Taken.taken t k))
-    go (Breaks x) (Checked.first k) refused added = rw (leaves_out lines h r given k) refused
+    go (Ok tt) (Checked.none k) refused added = rw (takes_in lines h r given k) (added (Taken.taken t k))
+    go (Err x) (Checked.first k) refused added = rw (leaves_out lines h r given k) refused
 
 -- such a list has at most 65,535 events
 pub taken_events : {lines : ℕ} {h : History} → Taken lines h → length h ≤ 65535

@@ -6,11 +6,11 @@ use Rattle.pass.specs.Pass.{Result}
 use Rattle.pass.proofs.RecordsLeft.{refused_here, next_judged, closed_here, all_left}
 use Rattle.pass.proofs.give_records.Goals as goal
 
-pub returns-in-Refused : goal.returns-in-Refused
-returns-in-Refused c =
+pub returns-in-Err : goal.returns-in-Err
+returns-in-Err c =
     let k = c.args in
     let s = c.judge_record-s.ensures in
-    let here = refused_here k.records.now k.count c.loop-i.i _ (omega arith) c.record_at.ensures s.answer_value s.buffer_after c.in-Refused.is in
+    let here = refused_here k.records.now k.count c.loop-i.i _ (omega arith) c.record_at.ensures s.answer_value s.buffer_after c.in-Err.is in
     let all = here ∙ c.loop-i.invariant.1 ∙ all_left k.records.now k.count _ in
     record { check_value = ap (λ (e : Result). e.check) all; buffer_after = ap (λ (e : Result). e.stage) all }
 
@@ -18,7 +18,7 @@ pub loop-i-preserved : goal.loop-i-preserved
 loop-i-preserved c =
     let k = c.args in
     let s = c.judge_record-s.ensures in
-    (omega arith, next_judged k.records.now k.count c.loop-i.i _ (omega arith) c.record_at.ensures s.answer_value s.buffer_after c.in-Found.is ∙ c.loop-i.invariant.1)
+    (omega arith, next_judged k.records.now k.count c.loop-i.i _ (omega arith) c.record_at.ensures s.answer_value s.buffer_after c.in-Ok.is ∙ c.loop-i.invariant.1)
 
 pub returns : goal.returns
 returns c =

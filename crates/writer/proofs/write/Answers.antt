@@ -11,12 +11,12 @@ use Rattle.writer.proofs.write.Goals as goal
 pub next-requires : goal.next-requires
 next-requires c =
     let k = c.args in
-    let f = event_passed (length k.area.now) (records_end k.w) (view_of k.w) k.r.event (sym c.in-Passed.ensures) in
+    let f = event_passed (length k.area.now) (records_end k.w) (view_of k.w) k.r.event (sym c.in-Ok.ensures) in
     (own_passed _ _ (view_of k.w) k.r.event f, omega (arith, f.short))
 
-pub returns-in-Passed-clause-area_after : goal.returns-in-Passed-clause-area_after
-returns-in-Passed-clause-area_after c =
+pub returns-in-Ok-clause-area_after : goal.returns-in-Ok-clause-area_after
+returns-in-Ok-clause-area_after c =
     let k = c.args in
-    let e = sym c.in-Passed.ensures in
+    let e = sym c.in-Ok.ensures in
     let f = event_passed (length k.area.now) (records_end k.w) (view_of k.w) k.r.event e in
     area_laid (records_end k.w) (record_bytes k.r.event k.r.site) k.area.now e f.enough c.records_end.ensures c.record_bytes-bytes.ensures c.put.ensures

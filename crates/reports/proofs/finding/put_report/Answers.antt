@@ -3,13 +3,13 @@ use mathlib.Core.Path.{refl, sym}
 use Rattle.reports.proofs.Findings.{refusal_put, findings_put_lem}
 use Rattle.reports.proofs.finding.put_report.Goals as goal
 
-pub returns-in-Refused : goal.returns-in-Refused
-returns-in-Refused c =
+pub returns-in-Err : goal.returns-in-Err
+returns-in-Err c =
     let k = c.args in
-    refusal_put k.trace.now k.area.now (sym c.in-Refused.ensures.value) c.number.ensures c.judge.ensures.area_after
+    refusal_put k.trace.now k.area.now (sym c.in-Err.ensures.value) c.number.ensures c.judge.ensures.area_after
     c.refusal.ensures
 
-pub returns-in-Accepted : goal.returns-in-Accepted
-returns-in-Accepted c =
+pub returns-in-Ok : goal.returns-in-Ok
+returns-in-Ok c =
     let k = c.args in
-    findings_put_lem k.trace.now k.area.now (sym c.in-Accepted.ensures.value) c.judge.ensures.area_after c.judge.auto.area refl
+    findings_put_lem k.trace.now k.area.now (sym c.in-Ok.ensures.value) c.judge.ensures.area_after c.judge.auto.area refl

@@ -2,13 +2,13 @@
 use Rattle.reports.proofs.Pages.{refusal_put, pages_put}
 use Rattle.reports.proofs.paging.put_report.Goals as goal
 
-pub returns-in-Refused : goal.returns-in-Refused
-returns-in-Refused c =
+pub returns-in-Err : goal.returns-in-Err
+returns-in-Err c =
     let k = c.args in
-    refusal_put k.area.now k.text.now c.pages.ensures.value c.in-Refused.is c.number.ensures c.pages.ensures.area_after
+    refusal_put k.area.now k.text.now c.pages.ensures.value c.in-Err.is c.number.ensures c.pages.ensures.area_after
     c.refusal.ensures
 
-pub returns-in-Written : goal.returns-in-Written
-returns-in-Written c =
+pub returns-in-Ok : goal.returns-in-Ok
+returns-in-Ok c =
     let k = c.args in
-    pages_put k.area.now k.text.now c.pages.ensures.value c.in-Written.is c.pages.ensures.area_after
+    pages_put k.area.now k.text.now c.pages.ensures.value c.in-Ok.is c.pages.ensures.area_after
