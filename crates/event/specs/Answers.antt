@@ -10,6 +10,10 @@ use Rattle.event.specs.declared.TraceRefusal.{TraceRefusal}
 abbrev pub Check : Type 0
 Check = Result ⊤ Refusal
 
+-- no limit is broken
+abbrev pub passed : {E : Type 0} → Result ⊤ E
+passed = Ok tt
+
 -- what an event that is given gets: its finding, or a refusal
 abbrev pub Answer : Type 0
 Answer = Result Finding Refusal

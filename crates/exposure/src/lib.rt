@@ -89,7 +89,7 @@ fn sum_bytes(
 }
 
 // So many epochs divided by so many bytes; 17 where there is no byte.
-fn mean(epochs: u32, bytes: u16) -> Result<Mean, Refusal>
+fn mean_of(epochs: u32, bytes: u16) -> Result<Mean, Refusal>
     requires { epochs ≤ most_epochs * bytes }
     ensures { result ≡ mean_of epochs bytes }
 {
@@ -116,7 +116,7 @@ pub fn exposure_of(
 {
     let bytes = 64 * tables::lines_of(counts);
     let s = sum_bytes(bytes, stored, fenced, opened, closed);
-    mean(s.epochs, s.bytes)
+    mean_of(s.epochs, s.bytes)
 }
 
 // The mean exposure of a run. The run may go on.

@@ -23,7 +23,13 @@ fn copy(area: &mut [u8], buffer: &[u8], n: usize)
 }
 
 // The records judged into a buffer, and the findings then copied to the area, where nothing is refused.
-fn judge_by(records: &[u8], count: u32, lines: u16, buffer: &mut [u8], area: &mut [u8]) -> Result<Totals, TraceRefusal>
+fn judge_by(
+    records: &[u8],
+    count: u32,
+    lines: u16,
+    buffer: &mut [u8],
+    area: &mut [u8],
+) -> Result<Totals, TraceRefusal>
     requires { (finding_size * count ≤ length buffer.old) × (finding_size * count ≤ length area.old) }
     ensures value { result ≡ verdict_by (all_judged count lines records.now buffer.old) }
     ensures buffer_after { buffer.new ≡ (all_judged count lines records.now buffer.old).stage.buffer }
@@ -33,7 +39,15 @@ fn judge_by(records: &[u8], count: u32, lines: u16, buffer: &mut [u8], area: &mu
     let j = pass::judge_records(records, count, lines, buffer);
     let check = j.check;
     match check {
-        Err(TraceRefusal { refusal, at: record }) => Err(TraceRefusal { refusal, at: record }),
+        Err(
+            TraceRefusal {
+                refusal,
+                at: record,
+            },
+        ) => Err(TraceRefusal {
+            refusal,
+            at: record,
+        }),
         Ok(()) => {
             copy(area, buffer, 12 * (count as usize));
             Ok(Totals {
@@ -46,7 +60,12 @@ fn judge_by(records: &[u8], count: u32, lines: u16, buffer: &mut [u8], area: &mu
 }
 
 // The records judged into a buffer of their own. Most traces are short, and a short buffer is ready sooner.
-fn judge_part(records: &[u8], count: u32, lines: u16, area: &mut [u8]) -> Result<Totals, TraceRefusal>
+fn judge_part(
+    records: &[u8],
+    count: u32,
+    lines: u16,
+    area: &mut [u8],
+) -> Result<Totals, TraceRefusal>
     requires { (finding_size * count ≤ long_buffer) × (finding_size * count ≤ length area.old) }
     ensures value { result ≡ verdict_by (all_judged count lines records.now (buffer_for count)) }
     ensures area_after { area.new ≡
@@ -69,7 +88,10 @@ pub fn judge(trace: &[u8], area: &mut [u8]) -> Result<Totals, TraceRefusal>
         Err(x) => Err(TraceRefusal { refusal: x, at: 0 }),
         Ok(t) => {
             if area.len() < 12 * (t.count as usize) {
-                return Err(TraceRefusal { refusal: Refusal::AreaTooShort, at: 0 });
+                return Err(TraceRefusal {
+                    refusal: Refusal::AreaTooShort,
+                    at: 0,
+                });
             }
             judge_part(trace::part(trace, t.offset), t.count, t.lines, area)
         }

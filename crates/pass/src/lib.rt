@@ -24,7 +24,10 @@ fn close(depth: u16) -> Result<(), TraceRefusal>
     if depth == 0 {
         return Ok(());
     }
-    Err(TraceRefusal { refusal: Refusal::TransactionOpen, at: 0 })
+    Err(TraceRefusal {
+        refusal: Refusal::TransactionOpen,
+        at: 0,
+    })
 }
 
 // The records, given one after another to tables that the caller lends, up to the first that is refused, and then the closing. A finding
@@ -81,7 +84,10 @@ pub fn give_records(
         counts = s.counts;
         match answer {
             Err(refusal) => {
-                let check = Err(TraceRefusal { refusal: refusal, at: number });
+                let check = Err(TraceRefusal {
+                    refusal: refusal,
+                    at: number,
+                });
                 return Judged { check, counts };
             }
             Ok(_) => {}

@@ -14,12 +14,17 @@ fn answer(e: Result<Mean, Refusal>) -> Result<Mean, TraceRefusal>
     ensures { result ≡ without_record e }
 {
     match e {
-        Err(refusal) => Err(TraceRefusal { refusal: refusal, at: 0 }),
-        Ok(Mean {
-            quotient,
-            remainder,
-            divisor,
-        }) => Ok(Mean {
+        Err(refusal) => Err(TraceRefusal {
+            refusal: refusal,
+            at: 0,
+        }),
+        Ok(
+            Mean {
+                quotient,
+                remainder,
+                divisor,
+            },
+        ) => Ok(Mean {
             quotient,
             remainder,
             divisor,
@@ -56,10 +61,16 @@ fn records_exposure(records: &[u8], count: u32, lines: u16) -> Result<Mean, Trac
     );
     let check = j.check;
     match check {
-        Err(TraceRefusal { refusal, at: record }) => Err(TraceRefusal { refusal, at: record }),
-        Ok(()) => answer(exposure::exposure_of(
-            j.counts, &stored, &fenced, &opened, &closed,
-        )),
+        Err(
+            TraceRefusal {
+                refusal,
+                at: record,
+            },
+        ) => Err(TraceRefusal {
+            refusal,
+            at: record,
+        }),
+        Ok(()) => answer(exposure::exposure_of(j.counts, &stored, &fenced, &opened, &closed)),
     }
 }
 

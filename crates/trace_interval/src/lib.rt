@@ -76,11 +76,18 @@ fn sites_of(records: &[u8], count: u32, i: NamedInterval) -> Sites
 }
 
 // What the run after the records of a trace answers, with the sites.
-fn answer(records: &[u8], count: u32, a: Result<NamedInterval, Refusal>) -> Result<SitedInterval, TraceRefusal>
+fn answer(
+    records: &[u8],
+    count: u32,
+    a: Result<NamedInterval, Refusal>,
+) -> Result<SitedInterval, TraceRefusal>
     ensures { result ≡ with_sites (records_of count records.now) a }
 {
     match a {
-        Err(refusal) => Err(TraceRefusal { refusal: refusal, at: 0 }),
+        Err(refusal) => Err(TraceRefusal {
+            refusal: refusal,
+            at: 0,
+        }),
         Ok(interval) => Ok(SitedInterval {
             interval,
             sites: sites_of(records, count, interval),
@@ -89,7 +96,12 @@ fn answer(records: &[u8], count: u32, a: Result<NamedInterval, Refusal>) -> Resu
 }
 
 // The records given to a fresh window, and the run after them asked. No finding is kept: the buffer has no byte.
-fn records_interval(records: &[u8], count: u32, lines: u16, byte: u16) -> Result<SitedInterval, TraceRefusal>
+fn records_interval(
+    records: &[u8],
+    count: u32,
+    lines: u16,
+    byte: u16,
+) -> Result<SitedInterval, TraceRefusal>
     ensures { result ≡
         interval_by (records_of count records.now) (all_judged count lines records.now []) byte }
 {
@@ -119,7 +131,15 @@ fn records_interval(records: &[u8], count: u32, lines: u16, byte: u16) -> Result
     let check = j.check;
     let counts = j.counts;
     match check {
-        Err(TraceRefusal { refusal, at: record }) => Err(TraceRefusal { refusal, at: record }),
+        Err(
+            TraceRefusal {
+                refusal,
+                at: record,
+            },
+        ) => Err(TraceRefusal {
+            refusal,
+            at: record,
+        }),
         Ok(()) => {
             let run = Run {
                 counts,
@@ -143,8 +163,6 @@ pub fn interval(trace: &[u8], byte: u16) -> Result<SitedInterval, TraceRefusal>
 {
     match opening::open(trace) {
         Err(x) => Err(TraceRefusal { refusal: x, at: 0 }),
-        Ok(t) => {
-            records_interval(trace::part(trace, t.offset), t.count, t.lines, byte)
-        }
+        Ok(t) => { records_interval(trace::part(trace, t.offset), t.count, t.lines, byte) }
     }
 }

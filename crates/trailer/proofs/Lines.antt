@@ -1,5 +1,5 @@
 -- What the check of a line count says of it, and what the limit 4 does.
-use Rattle.std.specs.Prelude.{Ok, Err}
+use Rattle.std.specs.Prelude.{Err}
 use mathlib.Core.Path.{◌≡◌, refl}
 use mathlib.Core.Bool.{Bool, true, false, cond, not}
 use Prim.Native.Nat.{ℕ, ◌≤◌}
@@ -7,6 +7,7 @@ use native.Mathlib.Omega.{arith}
 use lib.Dec.{ltb, eqb}
 use borrow.Author.Tests.{eqb-true, ltb-false}
 use Rattle.event.specs.declared.Refusal.{Refusal}
+use Rattle.event.specs.Answers.{passed}
 use Rattle.event.specs.declared.Refusal.TheVariants.{BadLines}
 use Rattle.window.specs.Window.{most_lines, bad_lines, lines_check}
 use Rattle.event.proofs.Bools.{contradiction, fails, fails_not, or_left, or_right, not_of}
@@ -16,14 +17,14 @@ use Rattle.trailer.specs.Trailer.{bad_window}
 pub lines_refused : (lines : ℕ) {x : Refusal} → lines_check lines ≡ Err x → bad_lines lines ≡ true
 lines_refused lines {x} e = go (bad_lines lines) e
   where
-    go : (t : Bool) → cond t (Err BadLines) (Ok tt) ≡ Err x → t ≡ true
+    go : (t : Bool) → cond t (Err BadLines) passed ≡ Err x → t ≡ true
     go true k = refl
     go false k = let z : ◌≡◌ {A = ℕ} 0 1 = cc in absurd (omega arith)
 
-pub lines_passed : (lines : ℕ) → lines_check lines ≡ (Ok tt) → bad_lines lines ≡ false
+pub lines_passed : (lines : ℕ) → lines_check lines ≡ passed → bad_lines lines ≡ false
 lines_passed lines e = go (bad_lines lines) e
   where
-    go : (t : Bool) → cond t (Err BadLines) (Ok tt) ≡ (Ok tt) → t ≡ false
+    go : (t : Bool) → cond t (Err BadLines) passed ≡ passed → t ≡ false
     go true k = let z : ◌≡◌ {A = ℕ} 0 1 = cc in absurd (omega arith)
     go false k = refl
 
