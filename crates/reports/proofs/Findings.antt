@@ -50,7 +50,7 @@ module _ (trace area : List ℕ) where
     where
       go : (c : TraceCheck) → trace_check trace area ≡ c → verdict_for c (history_of trace) (answers_of trace) ≡ totals events fences findings → Taken events left
       go (Err r) p k = let z : ◌≡◌ {A = ℕ} 0 1 = cc in absurd (omega arith)
-      go (Ok tt) p k =
+      go (Ok _) p k =
           let check = unless_passed (first_broken (trace_limits trace area)) 0 (check_all (lines_in trace) (records_in trace)) p in
           let same : events ≡ length (history_of trace) = cc in
           record {
@@ -65,7 +65,7 @@ module _ (trace area : List ℕ) where
   stays {x} {n} e = go (trace_check trace area) refl e
     where
       go : (c : TraceCheck) → trace_check trace area ≡ c → verdict_for c (history_of trace) (answers_of trace) ≡ refused_at x n → area_after trace area ≡ area
-      go (Ok tt) p k = let z : ◌≡◌ {A = ℕ} 0 1 = cc in absurd (omega arith)
+      go (Ok _) p k = let z : ◌≡◌ {A = ℕ} 0 1 = cc in absurd (omega arith)
       go (Err r) p k = area_stays trace area p
 
   -- the refusal is put
