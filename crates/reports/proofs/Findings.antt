@@ -7,7 +7,9 @@ use native.Mathlib.Omega.{arith}
 use lib.ListN.{length, drop, length-append, length-drop}
 use lib.Seq.{take_all}
 use Rattle.event.specs.declared.Refusal.{Refusal}
+use Rattle.event.specs.declared.Totals.{Totals}
 use Rattle.event.specs.Answers.{Parsed, refused_at, totals}
+use Rattle.event.proofs.Results.{same_value}
 use Rattle.event.specs.Numbers.{number_of}
 use Rattle.codec.specs.Codec.{finding_size}
 use Rattle.history.specs.History.{History}
@@ -52,7 +54,7 @@ module _ (trace area : List ℕ) where
       go (Err r) p k = let z : ◌≡◌ {A = ℕ} 0 1 = cc in absurd (omega arith)
       go (Ok _) p k =
           let check = unless_passed (first_broken (trace_limits trace area)) 0 (check_all (lines_in trace) (records_in trace)) p in
-          let same : events ≡ length (history_of trace) = cc in
+          let same : events ≡ length (history_of trace) = ap (λ (t : Totals). t.events) (same_value k) in
           record {
             bytes = l ∙ area_holds trace area p;
             size = omega (arith, findings_size (lines_in trace) 1 [] (records_in trace) check.1, all_counted trace);
