@@ -50,7 +50,7 @@ use Rattle.claims.proofs.WriterRuns.{LeadsTo, leads, one_writer_run}
 use Rattle.claims.proofs.WriterLimits.{from_bytes_lem}
 
 -- records of accepted events pass, and those after them decide
-map_append : (events more : List Record) → map Ok (events ++ more) ≡ map Ok events ++ map Ok more
+map_append : (events more : List Record) → map {B = Parsed} Ok (events ++ more) ≡ map Ok events ++ map Ok more
 map_append [] more = refl
 map_append (r ∷ events) more = ap (λ (l : List Parsed). Ok r ∷ l) (map_append events more)
 

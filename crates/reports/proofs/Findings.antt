@@ -1,6 +1,6 @@
 -- The findings or the refusal in the area.
 use Rattle.std.specs.Prelude.{Ok, Err}
-use mathlib.Core.Path.{◌≡◌, refl, ap, ◌∙◌}
+use mathlib.Core.Path.{◌≡◌, refl, sym, ap, ◌∙◌}
 use mathlib.Core.List.{List, [], ◌++◌}
 use Prim.Native.Nat.{ℕ, min, ◌*◌, ◌≤◌}
 use native.Mathlib.Omega.{arith}
@@ -54,7 +54,7 @@ module _ (trace area : List ℕ) where
       go (Err r) p k = let z : ◌≡◌ {A = ℕ} 0 1 = cc in absurd (omega arith)
       go (Ok _) p k =
           let check = unless_passed (first_broken (trace_limits trace area)) 0 (check_all (lines_in trace) (records_in trace)) p in
-          let same : events ≡ length (history_of trace) = ap (λ (t : Totals). t.events) (same_value k) in
+          let same : events ≡ length (history_of trace) = ap (λ (t : Totals). t.events) (sym (same_value k)) in
           record {
             bytes = l ∙ area_holds trace area p;
             size = omega (arith, findings_size (lines_in trace) 1 [] (records_in trace) check.1, all_counted trace);
