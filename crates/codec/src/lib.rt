@@ -5,7 +5,7 @@ ghost use Rattle.std.specs.Prelude.{◌≡◌, ◌+◌, ◌*◌, get_or};
 ghost use Rattle.codec.specs.Codec.{u16_at, u32_at, finding_bytes, fields_at};
 ghost use Rattle.codec.specs.Placed.{placed};
 
-use event::{Fields, Finding, numbers};
+use event::{Fields, Finding};
 
 // The byte at a place, 0 past the end.
 pub fn byte_at(s: &[u8], at: usize) -> u8
@@ -42,7 +42,7 @@ pub fn u32_at(t: &[u8], at: u8) -> u32
 pub fn finding_bytes(f: Finding, site: u16) -> [u8; 12]
     ensures { result ≡ finding_bytes f site }
 {
-    let x = numbers::fields(f);
+    let x = Fields::from(f);
     let [lost_0, lost_1] = x.lost.to_le_bytes();
     let [kept_0, kept_1] = x.kept.to_le_bytes();
     let [moment_0, moment_1] = x.moment.to_le_bytes();

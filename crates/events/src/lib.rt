@@ -17,7 +17,7 @@ ghost use Rattle.findings.specs.Findings.{durable_at, ended_at};
 ghost use Rattle.events.specs.Next.{next_number, one_more, counted_with};
 ghost use Rattle.events.specs.Give.{outcome_of, stepped_for, given_for, give_of};
 
-use event::{Answer, Check, Event, Finding, Range, Record, numbers};
+use event::{Answer, Check, Event, Finding, Range, Record};
 use std::num;
 use tables::{Counts, Run};
 
@@ -39,7 +39,7 @@ pub struct Stepped {
 fn findings_after(n: u16, f: Finding) -> u16
     ensures { result ≡ (if is_none f then n else one_more n) }
 {
-    if numbers::fields(f).kind == 0 {
+    if matches!(f, Finding::None) {
         n
     } else {
         num::wrapping_add_u16(n, 1)

@@ -2,20 +2,10 @@
 #![tactic(auto)]
 
 ghost use Rattle.std.specs.Prelude.{◌≡◌};
-ghost use Rattle.records.specs.Record.{fields_bytes, zero_range, range_a, range_b, record_bytes};
+ghost use Rattle.records.specs.Record.{fields_bytes, range_a, range_b, record_bytes};
 ghost use Rattle.trailer.specs.Trailer.{trailer_with};
 
 use event::{Event, Range, Record, numbers};
-
-// A range whose fields are 0.
-fn zero_range() -> Range
-    ensures { result ≡ zero_range }
-{
-    Range {
-        address: 0,
-        length: 0,
-    }
-}
 
 // The range A of an event; its fields are 0 where the event has none.
 fn range_a(e: Event) -> Range
@@ -24,7 +14,7 @@ fn range_a(e: Event) -> Range
     match e {
         Event::Store(a) | Event::WriteBack(a) | Event::Log(a) | Event::Persisted(a) => a,
         Event::Ordered(a, _) => a,
-        Event::Fence | Event::Begin | Event::End => zero_range(),
+        Event::Fence | Event::Begin | Event::End => Range::default(),
     }
 }
 
@@ -34,7 +24,7 @@ fn range_b(e: Event) -> Range
 {
     match e {
         Event::Ordered(_, b) => b,
-        _ => zero_range(),
+        _ => Range::default(),
     }
 }
 

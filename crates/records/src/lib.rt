@@ -30,7 +30,7 @@ fn range_in(s: &[u8], at: usize) -> Range
 fn is_zero(r: Range) -> bool
     ensures { result ≡ is_zero r }
 {
-    r.address == 0 && r.length == 0
+    r == Range::default()
 }
 
 // Whether the number is an event's kind.

@@ -14,7 +14,7 @@ ghost use Rattle.pages.specs.Paged.{paged_reply};
 ghost use Rattle.replies.specs.Numbers.{numbers_of, in_bits32};
 
 use engine::{Asked, Closing};
-use event::{Answer, Check, NamedInterval, Refusal, numbers};
+use event::{Answer, Check, Fields, NamedInterval, Refusal, numbers};
 use exposure::Exposed;
 use file::{Closed, Started};
 use pages::Paged;
@@ -171,7 +171,7 @@ pub fn of_answer(a: Answer) -> Numbers
     match a {
         Answer::Refused(x) => refused(x, 0),
         Answer::Found(f) => {
-            let x = numbers::fields(f);
+            let x = Fields::from(f);
             five(x.kind as u16, x.lost, x.kept, x.moment, x.store)
         }
     }
