@@ -5,20 +5,13 @@ ghost use Rattle.std.specs.Prelude.{◌≡◌, ◌+◌, ◌*◌, get_or};
 ghost use Rattle.codec.specs.Codec.{u16_at, u32_at, finding_bytes, fields_at};
 ghost use Rattle.codec.specs.Placed.{placed};
 
-use event::{Fields, Finding, numbers};
+use event::{Fields, Finding};
 
 // The byte at a place, 0 past the end.
 pub fn byte_at(s: &[u8], at: usize) -> u8
     ensures { result ≡ get_or s.now at 0 }
 {
-    if at < s.len() { s[at] } else { 0 }
-}
-
-// A number of two bytes, least significant first.
-pub fn joined(low: u8, high: u8) -> u16
-    ensures { result ≡ low + 256 * high }
-{
-    (low as u16) + 256 * (high as u16)
+    s.get(at).copied().unwrap_or(0)
 }
 
 // The u16 at a place; bytes past the end count as 0.
@@ -26,9 +19,7 @@ pub fn u16_at(s: &[u8], at: usize) -> u16
     ensures { result ≡ u16_at s.now at }
 {
     if at < s.len() {
-        let low = byte_at(s, at);
-        let high = byte_at(s, at + 1);
-        joined(low, high)
+        u16::from_le_bytes([byte_at(s, at), byte_at(s, at + 1)])
     } else {
         0
     }
@@ -39,29 +30,27 @@ pub fn u32_at(t: &[u8], at: u8) -> u32
     ensures { result ≡ u32_at t.now at }
 {
     let i = at as usize;
-    let low = u16_at(t, i);
-    let high = u16_at(t, i + 2);
-    (low as u32) + 65536 * (high as u32)
+    u32::from_le_bytes([
+        byte_at(t, i),
+        byte_at(t, i + 1),
+        byte_at(t, i + 2),
+        byte_at(t, i + 3),
+    ])
 }
 
 // A finding with its site, as 12 bytes.
 pub fn finding_bytes(f: Finding, site: u16) -> [u8; 12]
     ensures { result ≡ finding_bytes f site }
 {
-    let x = numbers::fields(f);
+    let x = Fields::from(f);
+    let [lost_0, lost_1] = x.lost.to_le_bytes();
+    let [kept_0, kept_1] = x.kept.to_le_bytes();
+    let [moment_0, moment_1] = x.moment.to_le_bytes();
+    let [store_0, store_1] = x.store.to_le_bytes();
+    let [site_0, site_1] = site.to_le_bytes();
     [
-        x.kind,
-        0,
-        (x.lost % 256) as u8,
-        (x.lost / 256) as u8,
-        (x.kept % 256) as u8,
-        (x.kept / 256) as u8,
-        (x.moment % 256) as u8,
-        (x.moment / 256) as u8,
-        (x.store % 256) as u8,
-        (x.store / 256) as u8,
-        (site % 256) as u8,
-        (site / 256) as u8,
+        x.kind, 0, lost_0, lost_1, kept_0, kept_1, moment_0, moment_1, store_0, store_1, site_0,
+        site_1,
     ]
 }
 
@@ -86,9 +75,5 @@ pub fn put(slice: &mut [u8], at: usize, bytes: &[u8])
     if slice.len() < bytes.len() || slice.len() - bytes.len() < at {
         return;
     }
-    let mut i = 0;
-    while i < bytes.len() {
-        slice[at + i] = bytes[i];
-        i += 1;
-    }
+    slice[at..at + bytes.len()].copy_from_slice(bytes);
 }

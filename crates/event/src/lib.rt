@@ -7,7 +7,7 @@ ghost use Rattle.event.specs.Answers.{about};
 pub mod numbers; // the paper's number for each case
 
 // `length` bytes from `address` on.
-#[derive(Clone, Copy)]
+#[derive(Clone, Copy, PartialEq, Eq, Default)]
 pub struct Range {
     pub address: u16,
     pub length: u16,
@@ -65,7 +65,7 @@ pub enum Finding {
 }
 
 // A finding's kind and fields as the paper lists them. Fields that its kind does not mention are 0.
-#[derive(Clone, Copy)]
+#[derive(Clone, Copy, Default)]
 pub struct Fields {
     pub kind: u8,
     pub lost: u16,
@@ -74,26 +74,26 @@ pub struct Fields {
     pub store: u16,
 }
 
-// The seventeen reasons for a refusal, in the order of their numbers; none has the number 8.
+// The seventeen reasons for a refusal, with their numbers; none has the number 8.
 #[derive(Clone, Copy)]
 pub enum Refusal {
-    TraceTooShort,
-    TraceTooLong,
-    MarkDiffers,
-    BadLines,
-    LengthDiffers,
-    UnknownKind,
-    FieldSet,
-    PastWindow,
-    EventsExhausted,
-    NoTransaction,
-    TooDeep,
-    TransactionOpen,
-    AreaTooShort,
-    FileAreaTooShort,
-    PageAreaTooShort,
-    NoByteClosed,
-    SharedByte,
+    TraceTooShort = 1,
+    TraceTooLong = 2,
+    MarkDiffers = 3,
+    BadLines = 4,
+    LengthDiffers = 5,
+    UnknownKind = 6,
+    FieldSet = 7,
+    PastWindow = 9,
+    EventsExhausted = 10,
+    NoTransaction = 11,
+    TooDeep = 12,
+    TransactionOpen = 13,
+    AreaTooShort = 14,
+    FileAreaTooShort = 15,
+    PageAreaTooShort = 16,
+    NoByteClosed = 17,
+    SharedByte = 18,
 }
 
 // A refusal of a trace, and the number of the record that it is about, from 1, or 0 for trailer, area and closing.

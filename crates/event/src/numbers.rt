@@ -20,56 +20,55 @@ pub fn kind(e: Event) -> u8
     }
 }
 
-// The fields of a finding that has lost alone, or none of them.
+// The fields of a finding that has lost alone.
 fn only_lost(kind: u8, lost: u16) -> Fields
     ensures { result ≡ fields_with kind lost 0 0 0 }
 {
     Fields {
         kind,
         lost,
-        kept: 0,
-        moment: 0,
-        store: 0,
+        ..Fields::default()
     }
 }
 
 // A finding's kind and fields.
-pub fn fields(f: Finding) -> Fields
-    ensures { result ≡ fields_of f }
-{
-    match f {
-        Finding::None => only_lost(0, 0),
-        Finding::Holds => only_lost(1, 0),
-        Finding::Lost {
-            lost,
-            moment,
-            store,
-        } => Fields {
-            kind: 2,
-            lost,
-            kept: 0,
-            moment,
-            store,
-        },
-        Finding::OutOfOrder {
-            lost,
-            kept,
-            moment,
-            store,
-        } => {
-            Fields {
+impl From<Finding> for Fields {
+    ghost from_gives = { λ f x. x ≡ fields_of f };
+
+    fn from(f: Finding) -> Fields {
+        let none = Fields::default();
+        match f {
+            Finding::None => none,
+            Finding::Holds => Fields { kind: 1, ..none },
+            Finding::Lost {
+                lost,
+                moment,
+                store,
+            } => Fields {
+                kind: 2,
+                lost,
+                moment,
+                store,
+                ..none
+            },
+            Finding::OutOfOrder {
+                lost,
+                kept,
+                moment,
+                store,
+            } => Fields {
                 kind: 3,
                 lost,
                 kept,
                 moment,
                 store,
-            }
+            },
+            Finding::Unlogged { lost } => only_lost(4, lost),
+            Finding::Clean { lost } => only_lost(5, lost),
+            Finding::WrittenTwice { lost } => only_lost(6, lost),
+            Finding::LoggedTwice { lost } => only_lost(7, lost),
+            Finding::Empty => Fields { kind: 8, ..none },
         }
-        Finding::Unlogged { lost } => only_lost(4, lost),
-        Finding::Clean { lost } => only_lost(5, lost),
-        Finding::WrittenTwice { lost } => only_lost(6, lost),
-        Finding::LoggedTwice { lost } => only_lost(7, lost),
-        Finding::Empty => only_lost(8, 0),
     }
 }
 
@@ -77,23 +76,5 @@ pub fn fields(f: Finding) -> Fields
 pub fn number(r: Refusal) -> u8
     ensures { result ≡ number_of r }
 {
-    match r {
-        Refusal::TraceTooShort => 1,
-        Refusal::TraceTooLong => 2,
-        Refusal::MarkDiffers => 3,
-        Refusal::BadLines => 4,
-        Refusal::LengthDiffers => 5,
-        Refusal::UnknownKind => 6,
-        Refusal::FieldSet => 7,
-        Refusal::PastWindow => 9,
-        Refusal::EventsExhausted => 10,
-        Refusal::NoTransaction => 11,
-        Refusal::TooDeep => 12,
-        Refusal::TransactionOpen => 13,
-        Refusal::AreaTooShort => 14,
-        Refusal::FileAreaTooShort => 15,
-        Refusal::PageAreaTooShort => 16,
-        Refusal::NoByteClosed => 17,
-        Refusal::SharedByte => 18,
-    }
+    r as u8
 }

@@ -16,7 +16,7 @@ ghost use Rattle.findings.specs.Findings.{durable_at, ended_at};
 ghost use Rattle.events.specs.Next.{next_number, one_more, counted_with};
 ghost use Rattle.events.specs.Give.{outcome_of, stepped_for, given_for, give_of};
 
-use event::{Event, Finding, Range, Record, Refusal, numbers};
+use event::{Event, Finding, Range, Record, Refusal};
 use std::num;
 use tables::{Counts, Run};
 
@@ -38,7 +38,7 @@ pub struct Stepped {
 fn findings_after(n: u16, f: Finding) -> u16
     ensures { result ≡ (if is_none f then n else one_more n) }
 {
-    if numbers::fields(f).kind == 0 {
+    if matches!(f, Finding::None) {
         n
     } else {
         num::wrapping_add_u16(n, 1)

@@ -24,21 +24,14 @@ pub struct Sums {
     pub bytes: u16,
 }
 
-// One number less another; 0 where it is below it, as in no run that grew from a fresh window.
-fn less(x: u16, y: u16) -> u16
-    ensures { result ≡ x - y }
-{
-    if x < y { 0 } else { x - y }
-}
-
-// How many epochs a byte was at risk: the closing epoch of its interval less the opening epoch, where it is closed.
+// How many epochs a byte was at risk: the closing epoch of its interval less the opening epoch, where it is closed. No run that grew from a
+// fresh window closes an interval before it opened.
 fn epochs_at_risk(i: Interval) -> u16
     ensures { result ≡ epochs_at_risk i }
 {
     match i {
-        Interval::None => 0,
-        Interval::Open(_) => 0,
-        Interval::Closed(opened, closed) => less(closed, opened),
+        Interval::Closed(opened, closed) => closed.saturating_sub(opened),
+        Interval::None | Interval::Open(_) => 0,
     }
 }
 
@@ -46,18 +39,14 @@ fn epochs_at_risk(i: Interval) -> u16
 fn is_closed(i: Interval) -> bool
     ensures { result ≡ is_closed i }
 {
-    match i {
-        Interval::None => false,
-        Interval::Open(_) => false,
-        Interval::Closed(_, _) => true,
-    }
+    matches!(i, Interval::Closed(_, _))
 }
 
 // One for a byte whose interval is closed.
 fn one_if_closed(i: Interval) -> u16
     ensures { result ≡ one_if_closed i }
 {
-    if is_closed(i) { 1 } else { 0 }
+    u16::from(is_closed(i))
 }
 
 // The sums over the first bytes of the tables, so many of them.
@@ -74,13 +63,10 @@ fn sum_bytes(
 {
     let mut epochs: u32 = 0;
     let mut count: u16 = 0;
-    let mut i: u16 = 0;
-    while i < bytes {
-        let b = i as usize;
+    for b in 0..bytes as usize {
         let interval = tables::interval_from(stored[b], fenced[b], opened[b], closed[b]);
         epochs += epochs_at_risk(interval) as u32;
         count += one_if_closed(interval);
-        i += 1;
     }
     Sums {
         epochs,

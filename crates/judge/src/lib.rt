@@ -15,11 +15,7 @@ fn copy(area: &mut [u8], buffer: &[u8], n: usize)
     requires { (n ≤ length area.old) × (n ≤ length buffer.now) }
     ensures { area.new ≡ take n buffer.now ++ drop n area.old }
 {
-    let mut i = 0;
-    while i < n {
-        area[i] = buffer[i];
-        i += 1;
-    }
+    area[..n].copy_from_slice(&buffer[..n]);
 }
 
 // The records judged into a buffer, and the findings then copied to the area, where nothing is refused.

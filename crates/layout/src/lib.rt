@@ -2,20 +2,10 @@
 #![tactic(auto)]
 
 ghost use Rattle.std.specs.Prelude.{◌≡◌};
-ghost use Rattle.records.specs.Record.{fields_bytes, zero_range, range_a, range_b, record_bytes};
+ghost use Rattle.records.specs.Record.{fields_bytes, range_a, range_b, record_bytes};
 ghost use Rattle.trailer.specs.Trailer.{trailer_with};
 
 use event::{Event, Range, Record, numbers};
-
-// A range whose fields are 0.
-fn zero_range() -> Range
-    ensures { result ≡ zero_range }
-{
-    Range {
-        address: 0,
-        length: 0,
-    }
-}
 
 // The range A of an event; its fields are 0 where the event has none.
 fn range_a(e: Event) -> Range
@@ -24,9 +14,7 @@ fn range_a(e: Event) -> Range
     match e {
         Event::Store(a) | Event::WriteBack(a) | Event::Log(a) | Event::Persisted(a) => a,
         Event::Ordered(a, _) => a,
-        Event::Fence => zero_range(),
-        Event::Begin => zero_range(),
-        Event::End => zero_range(),
+        Event::Fence | Event::Begin | Event::End => Range::default(),
     }
 }
 
@@ -36,13 +24,7 @@ fn range_b(e: Event) -> Range
 {
     match e {
         Event::Ordered(_, b) => b,
-        Event::Store(_) => zero_range(),
-        Event::WriteBack(_) => zero_range(),
-        Event::Fence => zero_range(),
-        Event::Begin => zero_range(),
-        Event::Log(_) => zero_range(),
-        Event::End => zero_range(),
-        Event::Persisted(_) => zero_range(),
+        _ => Range::default(),
     }
 }
 
@@ -50,20 +32,14 @@ fn range_b(e: Event) -> Range
 fn fields_bytes(kind: u8, a: Range, b: Range, site: u16) -> [u8; 12]
     ensures { result ≡ fields_bytes kind a b site }
 {
-    [
-        kind,
-        0,
-        (a.address % 256) as u8,
-        (a.address / 256) as u8,
-        (a.length % 256) as u8,
-        (a.length / 256) as u8,
-        (b.address % 256) as u8,
-        (b.address / 256) as u8,
-        (b.length % 256) as u8,
-        (b.length / 256) as u8,
-        (site % 256) as u8,
-        (site / 256) as u8,
-    ]
+    let mut bytes = [0u8; 12];
+    bytes[0] = kind;
+    bytes[2..4].copy_from_slice(&a.address.to_le_bytes());
+    bytes[4..6].copy_from_slice(&a.length.to_le_bytes());
+    bytes[6..8].copy_from_slice(&b.address.to_le_bytes());
+    bytes[8..10].copy_from_slice(&b.length.to_le_bytes());
+    bytes[10..].copy_from_slice(&site.to_le_bytes());
+    bytes
 }
 
 // A record as 12 bytes.
@@ -80,23 +56,10 @@ pub fn record_bytes(r: Record) -> [u8; 12]
 pub fn trailer_bytes(offset: u32, count: u32, lines: u16) -> [u8; 16]
     ensures { result ≡ trailer_with offset count lines }
 {
-    let mark = b"PTRA";
-    [
-        mark[0],
-        mark[1],
-        mark[2],
-        mark[3],
-        (offset % 65536 % 256) as u8,
-        (offset % 65536 / 256) as u8,
-        (offset / 65536 % 256) as u8,
-        (offset / 65536 / 256) as u8,
-        (count % 65536 % 256) as u8,
-        (count % 65536 / 256) as u8,
-        (count / 65536 % 256) as u8,
-        (count / 65536 / 256) as u8,
-        (lines % 256) as u8,
-        (lines / 256) as u8,
-        0,
-        0,
-    ]
+    let mut bytes = [0u8; 16];
+    bytes[..4].copy_from_slice(b"PTRA");
+    bytes[4..8].copy_from_slice(&offset.to_le_bytes());
+    bytes[8..12].copy_from_slice(&count.to_le_bytes());
+    bytes[12..14].copy_from_slice(&lines.to_le_bytes());
+    bytes
 }

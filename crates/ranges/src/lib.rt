@@ -48,9 +48,7 @@ fn any_past(lines: u16, e: Event) -> bool
             is_past(lines, a)
         }
         Event::Ordered(a, b) => is_past(lines, a) || is_past(lines, b),
-        Event::Fence => false,
-        Event::Begin => false,
-        Event::End => false,
+        Event::Fence | Event::Begin | Event::End => false,
     }
 }
 
@@ -68,13 +66,7 @@ fn ranges_share(e: Event) -> bool
 {
     match e {
         Event::Ordered(a, b) => shares_byte(a, b),
-        Event::Store(_) => false,
-        Event::WriteBack(_) => false,
-        Event::Fence => false,
-        Event::Begin => false,
-        Event::Log(_) => false,
-        Event::End => false,
-        Event::Persisted(_) => false,
+        _ => false,
     }
 }
 

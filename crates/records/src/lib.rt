@@ -12,9 +12,7 @@ fn u16_in(s: &[u8], at: usize) -> u16
     requires { at + 2 ≤ length s.now }
     ensures { result ≡ u16_at s.now at }
 {
-    let low = s[at];
-    let high = s[at + 1];
-    codec::joined(low, high)
+    u16::from_le_bytes([s[at], s[at + 1]])
 }
 
 // The range at a place, all of whose bytes are there.
@@ -32,21 +30,21 @@ fn range_in(s: &[u8], at: usize) -> Range
 fn is_zero(r: Range) -> bool
     ensures { result ≡ is_zero r }
 {
-    r.address == 0 && r.length == 0
+    r == Range::default()
 }
 
 // Whether the number is an event's kind.
 fn is_kind(kind: u8) -> bool
     ensures { result ≡ is_kind kind }
 {
-    1 <= kind && kind <= 8
+    matches!(kind, 1..=8)
 }
 
 // Whether the kind has a range A.
 fn uses_a(kind: u8) -> bool
     ensures { result ≡ uses_a kind }
 {
-    !(kind == 3 || kind == 4 || kind == 6)
+    !matches!(kind, 3 | 4 | 6)
 }
 
 // Whether the kind has a range B.
@@ -91,10 +89,8 @@ pub fn padded(s: &[u8]) -> [u8; 12]
     ensures { result ≡ padded 12 s.now }
 {
     let mut t = [0u8; 12];
-    let mut i = 0;
-    while i < 12 {
+    for i in 0..12 {
         t[i] = codec::byte_at(s, i);
-        i += 1;
     }
     t
 }

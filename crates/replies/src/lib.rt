@@ -13,7 +13,7 @@ ghost use Rattle.trace_interval.specs.TraceInterval.{site_values, trace_interval
 ghost use Rattle.pages.specs.Paged.{paged_reply};
 ghost use Rattle.replies.specs.Numbers.{numbers_of, in_bits32};
 
-use event::{Finding, NamedInterval, Refusal, Totals, TraceRefusal, numbers};
+use event::{Fields, Finding, NamedInterval, Refusal, Totals, TraceRefusal, numbers};
 use exposure::Mean;
 use file::Writer;
 use pages::PageRefusal;
@@ -168,7 +168,7 @@ pub fn of_answer(a: Result<Finding, Refusal>) -> Numbers
     match a {
         Err(x) => refused(x, 0),
         Ok(f) => {
-            let x = numbers::fields(f);
+            let x = Fields::from(f);
             five(x.kind as u16, x.lost, x.kept, x.moment, x.store)
         }
     }

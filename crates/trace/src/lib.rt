@@ -11,25 +11,15 @@ use event::{Record, Refusal};
 pub fn part(s: &[u8], offset: u32) -> &[u8]
     ensures { result.now ≡ record_part offset s.now }
 {
-    let from = offset as usize;
-    if s.len() < 16 {
-        return &s[..0];
-    }
-    let to = s.len() - 16;
-    if to < from {
-        return &s[..0];
-    }
-    &s[from..to]
+    let to = s.len().saturating_sub(16);
+    s.get(offset as usize..to).unwrap_or(&[])
 }
 
 // The bytes from a place on; none past the end.
 fn tail(s: &[u8], at: usize) -> &[u8]
     ensures { result.now ≡ drop at s.now }
 {
-    if s.len() < at {
-        return &s[..0];
-    }
-    &s[at..]
+    s.get(at..).unwrap_or(&[])
 }
 
 // The record with so many before it, or the refusal 6 or 7.

@@ -1,33 +1,15 @@
 // The trailer of a trace: the last 16 bytes. Numbers are least significant byte first.
-ghost use Rattle.std.specs.Prelude.{◌≡◌, ◌≤◌, eqb, length};
-ghost use Rattle.trailer.specs.Trailer.{same_bytes, has_mark, trailer_from, trailer_of, bad_window, end_of, opened_of};
+ghost use Rattle.std.specs.Prelude.{◌≡◌, eqb, length};
+ghost use Rattle.trailer.specs.Trailer.{has_mark, trailer_from, trailer_of, bad_window, end_of, opened_of};
 
 use crate::Trailer;
 use event::Refusal;
 
-// Whether two strings have the same bytes.
-fn same_bytes(a: &[u8], b: &[u8]) -> bool
-    ensures { result ≡ same_bytes a.now b.now }
-{
-    if a.len() != b.len() {
-        return false;
-    }
-    let mut i = 0;
-    while i < a.len() {
-        if a[i] != b[i] {
-            return false;
-        }
-        i += 1;
-    }
-    true
-}
-
 // Whether the trailer starts with the mark.
 fn has_mark(t: &[u8]) -> bool
-    requires { 4 ≤ length t.now }
     ensures { result ≡ has_mark t.now }
 {
-    same_bytes(&t[..4], b"PTRA")
+    t.starts_with(b"PTRA")
 }
 
 // The trailer after its mark.
