@@ -7,8 +7,8 @@ use native.Mathlib.Omega.{arith}
 use native.Mathlib.Nat.{zero-add, add-zero}
 use native.Mathlib.Decide.{ℕ_discrete as dec_eq}
 use Rattle.history.specs.Found.{lowest}
-use Rattle.searches.specs.declared.Search.{Search}
-use Rattle.searches.specs.declared.Search.TheVariants.{At}
+use Rattle.std.specs.Prelude.{Option as Answer}
+use Rattle.std.specs.Prelude.{Some}
 use Rattle.searches.specs.Tests.{searched, is_found, skipped}
 use Rattle.searches.proofs.FromFront.{left, left_all}
 
@@ -37,16 +37,26 @@ pub not_found : (found : Option ℕ) → is_found found ≡ false → found ≡ 
 not_found none e = refl
 not_found (some x) e = let z : ◌≡◌ {A = ℕ} 0 1 = cc in absurd (omega arith)
 
--- one more place at the end
-pub found_more : (p : ℕ → Bool) (at n : ℕ) {found t : Bool} → found ≡ is_found (lowest p at n) → t ≡ p (at + n) →
-    (found || t) ≡ is_found (lowest p at (n + 1))
+-- what is found among no places, among one more, and among all n where that is where a loop over them has come
+pub found_before : (p : ℕ → Bool) (at : ℕ) → false ≡ is_found (lowest p at (at - at))
 unfolding lowest
-found_more p at n e k = rw (e, k, lowest_add p n 1 at) (go (lowest p at n) (p (at + n)))
+found_before p at = let none : at - at ≡ 0 = omega arith in rw none
+
+pub found_more : (p : ℕ → Bool) (at b : ℕ) {found t : Bool} → at ≤ b → found ≡ is_found (lowest p at (b - at)) → t ≡ p b →
+    (found || t) ≡ is_found (lowest p at (b + 1 - at))
+unfolding lowest
+found_more p at b h e k =
+    let more : b + 1 - at ≡ b - at + 1 = omega arith in
+    let here : at + (b - at) ≡ b = omega arith in
+    rw (e, k, more, lowest_add p (b - at) 1 at, here) (go (lowest p at (b - at)) (p b))
   where
-    go : (found : Option ℕ) (t : Bool) → (is_found found || t) ≡ is_found (or_next found (cond t (some (at + n)) none))
+    go : (found : Option ℕ) (t : Bool) → (is_found found || t) ≡ is_found (or_next found (cond t (some b) none))
     go none true = refl
     go none false = refl
     go (some x) t = refl
+
+pub found_all : (p : ℕ → Bool) (at n b : ℕ) {found : Bool} → b ≡ at + n → found ≡ is_found (lowest p at (b - at)) → found ≡ is_found (lowest p at n)
+found_all p at n b h e = let all : b - at ≡ n = omega arith in rw all at e
 
 -- where nothing is found no place passes
 pub none_there : (p : ℕ → Bool) (x n : ℕ) → is_found (lowest p x n) ≡ false → (k : ℕ) → x ≤ k → k < x + n → p k ≡ false
@@ -73,13 +83,13 @@ left_part p end x m h e = sym (left_add p end x m h ∙ rw e)
 -- a loop from `at` on, with the search over what is left at x the same as the whole
 module _ (p : ℕ → Bool) (at n x : ℕ) (same : left p (at + n) x ≡ left p (at + n) at) where
   -- it is left at a part in which something passes
-  pub part_here : (m : ℕ) {y : ℕ} → x + m ≤ at + n → lowest p x m ≡ some y → At y ≡ searched (lowest p at n)
+  pub part_here : (m : ℕ) {y : ℕ} → x + m ≤ at + n → lowest p x m ≡ some y → Some y ≡ searched (lowest p at n)
   unfolding searched
   part_here m {y} h e =
       let here : left p (at + n) x ≡ some y = left_add p (at + n) x m h ∙ rw e in
       ap searched (sym here ∙ same ∙ left_all p at n)
 
-  pub part_found : (m : ℕ) {s : Search} → x + m ≤ at + n → is_found (lowest p x m) ≡ true → s ≡ searched (lowest p x m) → s ≡ searched (lowest p at n)
+  pub part_found : (m : ℕ) {s : Answer ℕ} → x + m ≤ at + n → is_found (lowest p x m) ≡ true → s ≡ searched (lowest p x m) → s ≡ searched (lowest p at n)
   part_found m {s} h e found = go (lowest p x m) refl e
     where
       go : (o : Option ℕ) → lowest p x m ≡ o → is_found o ≡ true → s ≡ searched (lowest p at n)
@@ -93,40 +103,39 @@ module _ (p : ℕ → Bool) (at n x : ℕ) (same : left p (at + n) x ≡ left p 
   part_later m h e = left_part p (at + n) x m h e ∙ same
 
   -- it ends, and what is left is searched
-  pub part_last : {s : Search} → s ≡ searched (left p (at + n) x) → s ≡ searched (lowest p at n)
+  pub part_last : {s : Answer ℕ} → s ≡ searched (left p (at + n) x) → s ≡ searched (lowest p at n)
   part_last e = e ∙ ap searched (same ∙ left_all p at n)
 
--- what is left to skip
-abbrev pub left_skip : (ℕ → Bool) → ℕ → ℕ → ℕ
-left_skip p end x = skipped p x ((end - x) / 8)
-
--- after each group eight less are left
-eight_less : (end x : ℕ) → x + 8 ≤ end → (end - x) / 8 ≡ suc ((end - (x + 8)) / 8)
-eight_less end x h = omega arith
-
--- a loop from `at` on, with what is left to skip at x leading to the same place as the whole
-module _ (p : ℕ → Bool) (at n x : ℕ) (same : left_skip p (at + n) x ≡ left_skip p (at + n) at) where
-  -- at the first place all is left
-  whole : left_skip p (at + n) x ≡ skipped p at (n / 8)
-  whole = let e : at + n - at ≡ n = omega arith in rw e at same
+-- a loop over k groups of eight from `at` on has come to group g, with what is left to skip leading to the same place as the whole
+module _ (p : ℕ → Bool) (at k g : ℕ) (same : skipped p (at + g * 8) (k - g) ≡ skipped p at k) where
+  one_group : g < k → k - g ≡ suc (k - (g + 1))
+  one_group h = omega arith
 
   -- it ends at a group of which a number passes
-  pub skip_here : x + 8 ≤ at + n → is_found (lowest p x 8) ≡ true → x ≡ skipped p at (n / 8)
+  pub skip_here : g < k → is_found (lowest p (at + g * 8) 8) ≡ true → at + g * 8 ≡ skipped p at k
   unfolding skipped
-  skip_here h e = let here : left_skip p (at + n) x ≡ x = rw (eight_less (at + n) x h, e) in sym here ∙ whole
+  skip_here h e = let here : skipped p (at + g * 8) (k - g) ≡ at + g * 8 = rw (one_group h, e) in sym here ∙ same
 
   -- it goes on after one of which none does
-  pub skip_next : x + 8 ≤ at + n → is_found (lowest p x 8) ≡ false → left_skip p (at + n) (x + 8) ≡ left_skip p (at + n) at
+  pub skip_next : g < k → is_found (lowest p (at + g * 8) 8) ≡ false → skipped p (at + (g + 1) * 8) (k - (g + 1)) ≡ skipped p at k
   unfolding skipped
-  skip_next h e = let next : left_skip p (at + n) (x + 8) ≡ left_skip p (at + n) x = rw (eight_less (at + n) x h, e) in next ∙ same
+  skip_next h e =
+      let start : at + (g + 1) * 8 ≡ at + g * 8 + 8 = omega arith in
+      let next : skipped p (at + g * 8 + 8) (k - (g + 1)) ≡ skipped p (at + g * 8) (k - g) = rw (one_group h, e) in
+      rw start (next ∙ same)
 
-  -- it ends where less than eight are left
-  pub skip_end : at + n < x + 8 → x ≡ skipped p at (n / 8)
+  -- it ends where no group is left
+  pub skip_end : g ≡ k → at + k * 8 ≡ skipped p at k
   unfolding skipped
-  skip_end h =
-      let e : (at + n - x) / 8 ≡ 0 = omega arith in
-      let here : left_skip p (at + n) x ≡ x = rw e in
-      sym here ∙ whole
+  skip_end e =
+      let none : k - g ≡ 0 = omega arith in
+      let here : skipped p (at + g * 8) (k - g) ≡ at + g * 8 = rw none in
+      let all : at + k * 8 ≡ at + g * 8 = omega arith in
+      all ∙ sym here ∙ same
+
+-- at the first group all is left
+pub skip_all : (p : ℕ → Bool) (at k : ℕ) → skipped p (at + 0 * 8) (k - 0) ≡ skipped p at k
+skip_all p at k = let start : at + 0 * 8 ≡ at = omega arith in let all : k - 0 ≡ k = omega arith in rw (start, all)
 
 -- after some groups passed over, the search over what is left is the same
 skip_left : (p : ℕ → Bool) (end k x : ℕ) → x + k * 8 ≤ end →

@@ -7,7 +7,7 @@ use Prim.Native.Nat.{ℕ, ◌+◌, ◌-◌, ◌*◌, ◌≤◌, ◌<◌}
 use native.Mathlib.Omega.{arith}
 use Rattle.window.specs.Window.{line_of}
 use Rattle.ranges.specs.Ranges.{range_end}
-use Rattle.searches.specs.declared.Search.{Search}
+use Rattle.std.specs.Prelude.{Option as Answer}
 use Rattle.searches.specs.Tests.{passing, searched, is_found}
 use Rattle.searches.specs.declared.Test.TheVariants.{Open}
 use Rattle.history.specs.Found.{lowest}
@@ -16,6 +16,7 @@ use Rattle.searches.proofs.FromFront.{left, found_nothing}
 use Rattle.searches.proofs.EndLine.{by_line, line_passed, line_looked}
 use Rattle.searches.proofs.Parts.{not_found, part_found, part_later}
 use Rattle.searches.proofs.first_open.Goals as goal
+use Rattle.searches.proofs.first_open.Goals.{else-line_open-via-then-line_open+else-any, else-line_open-via-else-line_open}
 
 -- the n bytes from `at` on are searched, and the search has come to `byte`: a turn searches from there to `stop`, on one line
 module _ (line bytes : ℕ → Bool) (at n byte stop : ℕ) (same : left (by_line line bytes) (at + n) byte ≡ left (by_line line bytes) (at + n) at)
@@ -39,7 +40,7 @@ module _ (line bytes : ℕ → Bool) (at n byte stop : ℕ) (same : left (by_lin
         (at ≤ stop) × (stop ≤ at + n) × (left (by_line line bytes) (at + n) stop ≡ left (by_line line bytes) (at + n) at)
     none_there e = goes_on (sym looked ∙ not_found _ e)
 
-    found_there : {s : Search} → is_found (lowest bytes byte (stop - byte)) ≡ true → s ≡ searched (lowest bytes byte (stop - byte)) →
+    found_there : {s : Answer ℕ} → is_found (lowest bytes byte (stop - byte)) ≡ true → s ≡ searched (lowest bytes byte (stop - byte)) →
         s ≡ searched (lowest (by_line line bytes) at n)
     found_there e found = part_found (by_line line bytes) at n byte same (stop - byte) (omega arith) (rw looked at e) (rw looked at found)
 
@@ -53,22 +54,21 @@ returns-then-any c =
     (omega arith) (omega (arith, s, fits)) (omega (arith, s)) (omega (arith, s)) (sym c.line_open.ensures ∙ c.if-line_open.true)
     (sym c.any.ensures ∙ c.if-any.true) c.first.ensures)
 
-pub loop-b-preserved-else-any : goal.loop-b-preserved-else-any
-loop-b-preserved-else-any c =
-    let a = c.args in
-    let s = c.line_stop-stop.ensures in
-    let fits = ap range_end c.in_tables-part.ensures in
-    none_there (open_line a.fence a.dirtied.now a.backed.now) (passing Open a.stored.now a.fenced.now) _ _ c.loop-b.b c.line_stop-stop.result c.loop-b.invariant.2
-    (omega arith) (omega (arith, s, fits)) (omega (arith, s)) (omega (arith, s)) (sym c.line_open.ensures ∙ c.if-line_open.true)
-    (sym c.any.ensures ∙ c.if-any.false)
-
 pub loop-b-preserved : goal.loop-b-preserved
 loop-b-preserved c =
     let a = c.args in
     let s = c.line_stop-stop.ensures in
     let fits = ap range_end c.in_tables-part.ensures in
-    passed (open_line a.fence a.dirtied.now a.backed.now) (passing Open a.stored.now a.fenced.now) _ _ c.loop-b.b c.line_stop-stop.result c.loop-b.invariant.2
-    (omega arith) (omega (arith, s, fits)) (omega (arith, s)) (omega (arith, s)) (sym c.line_open.ensures ∙ c.if-line_open.false)
+    let line = open_line a.fence a.dirtied.now a.backed.now in
+    let bytes = passing Open a.stored.now a.fenced.now in
+    elim c.else-line_open.branch [
+      | else-line_open-via-then-line_open+else-any w ↦
+          none_there line bytes _ _ c.loop-b.b c.line_stop-stop.result c.loop-b.invariant.2 (omega arith) (omega (arith, s, fits)) (omega (arith, s))
+          (omega (arith, s)) (sym w.if-line_open.ensures) (sym w.if-any.ensures)
+      | else-line_open-via-else-line_open w ↦
+          passed line bytes _ _ c.loop-b.b c.line_stop-stop.result c.loop-b.invariant.2 (omega arith) (omega (arith, s, fits)) (omega (arith, s))
+          (omega (arith, s)) (sym w.if-line_open.ensures)
+    ]
 
 pub returns : goal.returns
 returns c = rw c.in_tables-part.ensures at (found_nothing _ _ _ c.loop-b.b c.loop-b.invariant.2 (omega arith))
