@@ -12,7 +12,10 @@ use lib.Dec.{leb, ltb}
 use lib.ListN.{length, get_or, set, length-set}
 use lib.Seq.{get_or-set_same, get_or-set_other, set-get_or, set_out}
 use borrow.Author.Tests.{le-leb, lt-leb, lt-ltb, le-ltb}
-use Rattle.tables.specs.Table.{changed}
+use borrow.Rule.Slice.PartMut.{mid_of, put_mid, same_len_mid}
+use Rattle.std.proofs.Common.{rules, replicate}
+use Rattle.std.proofs.lemmas.List.{ext_get_or, places}
+use Rattle.tables.specs.Table.{changed, filled}
 
 module _ (f : ℕ → ℕ → ℕ) (at : ℕ) (xs : List ℕ) where
   -- a change keeps the length
@@ -60,13 +63,21 @@ module _ (f : ℕ → ℕ → ℕ) (at : ℕ) (xs : List ℕ) where
       go (yes a) (yes b) = rw (le-leb at k a, le-ltb k (at + n) b) (changed_above n k b)
       go (yes a) (no b) = rw (le-leb at k a, lt-ltb k (at + n) (omega arith)) (changed_inside n k a (omega arith) s)
 
-  -- one turn of a loop that changes the entries in a row: what it reads is what stood there, and what it writes is one more change
-  pub changed_turn : (n : ℕ) {v : ℕ} {ys : List ℕ} → ys ≡ changed f at n xs → v ≡ f (at + n) (get_or ys (at + n) 0) → set ys (at + n) v ≡ changed f at (n + 1) xs
-  changed_turn n e k = rw (k, e, changed_more n, changed_above n (at + n) (omega arith))
+  -- a loop over the entries in a row: it begins with none of them changed
+  pub changed_before : xs ≡ changed f at (at - at) xs
+  unfolding changed
+  changed_before = let none : at - at ≡ 0 = omega arith in rw none
+
+  -- one turn: what it reads is what stood there, and what it writes is one more change
+  pub changed_up_to : (b : ℕ) {v : ℕ} {ys : List ℕ} → at ≤ b → ys ≡ changed f at (b - at) xs → v ≡ f b (get_or ys b 0) → set ys b v ≡ changed f at (b + 1 - at) xs
+  changed_up_to b h e k =
+      let more : b + 1 - at ≡ b - at + 1 = omega arith in
+      let here : at + (b - at) ≡ b = omega arith in
+      rw (k, e, more, changed_more (b - at), here, changed_above (b - at) b (omega arith))
 
   -- the loop's end
-  pub changed_done : (i n : ℕ) {ys : List ℕ} → i ≤ n → n ≤ i → ys ≡ changed f at i xs → ys ≡ changed f at n xs
-  changed_done i n h k e = let same : i ≡ n = omega arith in rw same at e
+  pub changed_all : (b n : ℕ) {ys : List ℕ} → b ≡ at + n → ys ≡ changed f at (b - at) xs → ys ≡ changed f at n xs
+  changed_all b n h e = let all : b - at ≡ n = omega arith in rw all at e
 
 -- a change of as many entries as one and then another has
 pub changed_add : (f : ℕ → ℕ → ℕ) (at m n : ℕ) (xs : List ℕ) → changed f at (m + n) xs ≡ changed f (at + m) n (changed f at m xs)
@@ -114,3 +125,20 @@ unfolding changed
 changed_kept f at zero xs h = refl
 changed_kept f at (suc n) xs h =
     rw (changed_kept f at n xs (λ k a b. h k a (omega arith)), h (at + n) (omega arith) (omega arith)) (set-get_or xs (at + n) 0)
+
+-- entries in a row that are filled at once, as a part of the table
+pub filled_part : (x at n k : ℕ) (xs : List ℕ) {ys : List ℕ} → at + n ≤ length xs → k ≡ n → ys ≡ replicate (length (mid_of at k xs)) x →
+    put_mid at k xs ys ≡ filled x at n xs
+filled_part x at n k xs {ys} s e filling = rw (filling, e, many) (ext_get_or 0 _ _ long (λ i below. entries i))
+  where
+    many : length (mid_of at n xs) ≡ n
+    many = grind (arith, places)
+    long : length (put_mid at n xs (replicate n x)) ≡ length (filled x at n xs)
+    long = let same : length (filled x at n xs) ≡ length xs = changed_length (λ place old. x) at xs n in grind (arith, places)
+    entries : (i : ℕ) → get_or (put_mid at n xs (replicate n x)) i 0 ≡ get_or (filled x at n xs) i 0
+    entries i = go (dec_le at i) (dec_le (at + n) i)
+      where
+        go : Dec (at ≤ i) → Dec (at + n ≤ i) → get_or (put_mid at n xs (replicate n x)) i 0 ≡ get_or (filled x at n xs) i 0
+        go (no a) d = rw (changed_below (λ place old. x) at xs n i (omega arith)) (grind (arith, places))
+        go (yes a) (yes b) = rw (changed_above (λ place old. x) at xs n i b) (grind (arith, places))
+        go (yes a) (no b) = rw (changed_inside (λ place old. x) at xs n i a (omega arith) s) (grind (arith, places))

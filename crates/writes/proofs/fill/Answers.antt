@@ -1,14 +1,8 @@
--- `writes::fill` meets its contract: after i turns the first i entries are filled.
+-- `writes::fill` meets its contract: the library fills the part.
 -- Assumes nothing.
-use mathlib.Core.Path.{refl}
 use native.Mathlib.Omega.{arith}
-use Rattle.tables.specs.Table.{changed}
-use Rattle.tables.proofs.Table.{changed_turn}
+use Rattle.tables.proofs.Table.{filled_part}
 use Rattle.writes.proofs.fill.Goals as goal
 
-pub loop-i-init : goal.loop-i-init
-unfolding changed
-loop-i-init c = (omega arith, refl)
-
-pub loop-i-preserved : goal.loop-i-preserved
-loop-i-preserved c = (omega arith, changed_turn _ _ _ _ c.loop-i.invariant.1 refl)
+pub returns : goal.returns
+returns c = filled_part _ _ _ _ _ c.requires (omega arith) (c.fill.ensures.after (λ y e. e))
