@@ -142,3 +142,13 @@ filled_part x at n k xs {ys} s e filling = rw (filling, e, many) (ext_get_or 0 _
         go (no a) d = rw (changed_below (λ place old. x) at xs n i (omega arith)) (grind (arith, places))
         go (yes a) (yes b) = rw (changed_above (λ place old. x) at xs n i b) (grind (arith, places))
         go (yes a) (no b) = rw (changed_inside (λ place old. x) at xs n i a (omega arith) s) (grind (arith, places))
+
+-- where the table has only some of them
+pub filled_room : (x at n : ℕ) {from m : ℕ} (xs : List ℕ) {ys : List ℕ} →
+    from ≡ min at (length xs) → m ≡ min n (length xs - from) → ys ≡ filled x from m xs → ys ≡ filled x at n xs
+unfolding changed
+filled_room x at n {from} {m} xs {ys} h k e = go (dec_le at (length xs))
+  where
+    go : Dec (at ≤ length xs) → ys ≡ filled x at n xs
+    go (yes a) = let same : from ≡ at = omega arith in changed_room (λ place old. x) at n xs (rw same at k) (rw same at e)
+    go (no a) = let none : m ≡ 0 = omega arith in rw none at e ∙ sym (changed_out (λ place old. x) at n xs (omega arith))
