@@ -37,26 +37,16 @@ pub not_found : (found : Option ℕ) → is_found found ≡ false → found ≡ 
 not_found none e = refl
 not_found (some x) e = let z : ◌≡◌ {A = ℕ} 0 1 = cc in absurd (omega arith)
 
--- what is found among no places, among one more, and among all n where that is where a loop over them has come
-pub found_before : (p : ℕ → Bool) (at : ℕ) → false ≡ is_found (lowest p at (at - at))
+-- one more place at the end
+pub found_more : (p : ℕ → Bool) (at n : ℕ) {found t : Bool} → found ≡ is_found (lowest p at n) → t ≡ p (at + n) →
+    (found || t) ≡ is_found (lowest p at (n + 1))
 unfolding lowest
-found_before p at = let none : at - at ≡ 0 = omega arith in rw none
-
-pub found_more : (p : ℕ → Bool) (at b : ℕ) {found t : Bool} → at ≤ b → found ≡ is_found (lowest p at (b - at)) → t ≡ p b →
-    (found || t) ≡ is_found (lowest p at (b + 1 - at))
-unfolding lowest
-found_more p at b h e k =
-    let more : b + 1 - at ≡ b - at + 1 = omega arith in
-    let here : at + (b - at) ≡ b = omega arith in
-    rw (e, k, more, lowest_add p (b - at) 1 at, here) (go (lowest p at (b - at)) (p b))
+found_more p at n e k = rw (e, k, lowest_add p n 1 at) (go (lowest p at n) (p (at + n)))
   where
-    go : (found : Option ℕ) (t : Bool) → (is_found found || t) ≡ is_found (or_next found (cond t (some b) none))
+    go : (found : Option ℕ) (t : Bool) → (is_found found || t) ≡ is_found (or_next found (cond t (some (at + n)) none))
     go none true = refl
     go none false = refl
     go (some x) t = refl
-
-pub found_all : (p : ℕ → Bool) (at n b : ℕ) {found : Bool} → b ≡ at + n → found ≡ is_found (lowest p at (b - at)) → found ≡ is_found (lowest p at n)
-found_all p at n b h e = let all : b - at ≡ n = omega arith in rw all at e
 
 -- where nothing is found no place passes
 pub none_there : (p : ℕ → Bool) (x n : ℕ) → is_found (lowest p x n) ≡ false → (k : ℕ) → x ≤ k → k < x + n → p k ≡ false
@@ -101,10 +91,6 @@ module _ (p : ℕ → Bool) (at n x : ℕ) (same : left p (at + n) x ≡ left p 
   -- it goes on after one in which nothing does
   pub part_later : (m : ℕ) → x + m ≤ at + n → lowest p x m ≡ none → left p (at + n) (x + m) ≡ left p (at + n) at
   part_later m h e = left_part p (at + n) x m h e ∙ same
-
-  -- it ends, and what is left is searched
-  pub part_last : {s : Answer ℕ} → s ≡ searched (left p (at + n) x) → s ≡ searched (lowest p at n)
-  part_last e = e ∙ ap searched (same ∙ left_all p at n)
 
 -- a loop over k groups of eight from `at` on has come to group g, with what is left to skip leading to the same place as the whole
 module _ (p : ℕ → Bool) (at k g : ℕ) (same : skipped p (at + g * 8) (k - g) ≡ skipped p at k) where

@@ -2,7 +2,7 @@
 // tables have.
 #![tactic(auto)]
 
-ghost use Rattle.std.specs.Prelude.{◌≡◌, ℕ, Bool, ◌&&◌, ◌+◌, ◌/◌, ◌^◌, ◌≤◌, ◌<◌, min, leb, ltb, length};
+ghost use Rattle.std.specs.Prelude.{◌≡◌, ℕ, Bool, ◌&&◌, ◌+◌, ◌/◌, ◌≤◌, ◌<◌, min, leb, ltb, length};
 ghost use Rattle.window.specs.Window.{window_bytes, line_of};
 ghost use Rattle.ranges.specs.Ranges.{line_count};
 ghost use Rattle.history.specs.Found.{lowest, lowest_in};
@@ -63,12 +63,12 @@ impl<'a> Places for Entries<'a> {
 
 // Whether one of the n places from `at` on passes. Every one is looked at, so that several can be looked at at once.
 fn any<P: Places>(places: &P, at: usize, n: usize) -> bool
-    requires { (at + n < 2 ^ 64) × (at + n ≤ P.count places.now) }
+    requires { (at + n ≤ 4096) × (at + n ≤ P.count places.now) }
     ensures { result ≡ is_found (lowest (P.passing places.now) at n) }
 {
     let mut found = false;
-    for b in at..at + n {
-        found |= places.passes(b);
+    for i in 0..n {
+        found |= places.passes(at + i);
     }
     found
 }
@@ -170,8 +170,10 @@ pub fn first_open(
     while b < end {
         let l = b / 64;
         let stop = line_stop(b, end);
-        if tables::line_open(fence, dirtied[l], backed[l]) && any(&open, b, stop - b) {
-            return first(&open, b, stop - b);
+        if tables::line_open(fence, dirtied[l], backed[l]) {
+            if any(&open, b, stop - b) {
+                return first(&open, b, stop - b);
+            }
         }
         b = stop;
     }

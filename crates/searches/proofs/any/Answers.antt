@@ -1,14 +1,13 @@
--- `searches::any` meets its contract: it has found what is among the places before b.
+-- `searches::any` meets its contract: after i turns it has found what is among the first i.
 -- Assumes nothing.
-use native.Mathlib.Omega.{arith}
-use Rattle.searches.proofs.Parts.{found_before, found_more, found_all}
+use mathlib.Core.Path.{refl}
+use Rattle.history.specs.Found.{lowest}
+use Rattle.searches.proofs.Parts.{found_more}
 use Rattle.searches.proofs.any.Goals as goal
 
-pub loop-b-init : goal.loop-b-init
-loop-b-init g c = found_before _ _
+pub loop-i-init : goal.loop-i-init
+unfolding lowest
+loop-i-init g c = refl
 
-pub loop-b-preserved : goal.loop-b-preserved
-loop-b-preserved g c = found_more _ _ _ c.loop-b.auto.b c.loop-b.invariant c.passes-found.ensures
-
-pub returns : goal.returns
-returns g c = found_all _ _ _ _ (omega arith) c.loop-b.invariant
+pub loop-i-preserved : goal.loop-i-preserved
+loop-i-preserved g c = found_more _ _ _ c.loop-i.invariant c.passes-found.ensures

@@ -16,7 +16,6 @@ use Rattle.searches.proofs.FromFront.{left, found_nothing}
 use Rattle.searches.proofs.EndLine.{by_line, line_passed, line_looked}
 use Rattle.searches.proofs.Parts.{not_found, part_found, part_later}
 use Rattle.searches.proofs.first_open.Goals as goal
-use Rattle.searches.proofs.first_open.Goals.{else-line_open-via-then-line_open+else-any, else-line_open-via-else-line_open}
 
 -- the n bytes from `at` on are searched, and the search has come to `byte`: a turn searches from there to `stop`, on one line
 module _ (line bytes : ℕ → Bool) (at n byte stop : ℕ) (same : left (by_line line bytes) (at + n) byte ≡ left (by_line line bytes) (at + n) at)
@@ -51,24 +50,24 @@ returns-then-any c =
     let fits = ap range_end c.in_tables-part.ensures in
     rw c.in_tables-part.ensures at
     (found_there (open_line a.fence a.dirtied.now a.backed.now) (passing Open a.stored.now a.fenced.now) _ _ c.loop-b.b c.line_stop-stop.result c.loop-b.invariant.2
-    (omega arith) (omega (arith, s, fits)) (omega (arith, s)) (omega (arith, s)) (sym c.line_open.ensures ∙ c.if-line_open.true)
-    (sym c.any.ensures ∙ c.if-any.true) c.first.ensures)
+    (omega arith) (omega (arith, s, fits)) (omega (arith, s)) (omega (arith, s)) (sym c.if-line_open.ensures)
+    (sym c.if-any.ensures) c.first.ensures)
+
+pub loop-b-preserved-else-any : goal.loop-b-preserved-else-any
+loop-b-preserved-else-any c =
+    let a = c.args in
+    let s = c.line_stop-stop.ensures in
+    let fits = ap range_end c.in_tables-part.ensures in
+    none_there (open_line a.fence a.dirtied.now a.backed.now) (passing Open a.stored.now a.fenced.now) _ _ c.loop-b.b c.line_stop-stop.result c.loop-b.invariant.2
+    (omega arith) (omega (arith, s, fits)) (omega (arith, s)) (omega (arith, s)) (sym c.if-line_open.ensures) (sym c.if-any.ensures)
 
 pub loop-b-preserved : goal.loop-b-preserved
 loop-b-preserved c =
     let a = c.args in
     let s = c.line_stop-stop.ensures in
     let fits = ap range_end c.in_tables-part.ensures in
-    let line = open_line a.fence a.dirtied.now a.backed.now in
-    let bytes = passing Open a.stored.now a.fenced.now in
-    elim c.else-line_open.branch [
-      | else-line_open-via-then-line_open+else-any w ↦
-          none_there line bytes _ _ c.loop-b.b c.line_stop-stop.result c.loop-b.invariant.2 (omega arith) (omega (arith, s, fits)) (omega (arith, s))
-          (omega (arith, s)) (sym w.if-line_open.ensures) (sym w.if-any.ensures)
-      | else-line_open-via-else-line_open w ↦
-          passed line bytes _ _ c.loop-b.b c.line_stop-stop.result c.loop-b.invariant.2 (omega arith) (omega (arith, s, fits)) (omega (arith, s))
-          (omega (arith, s)) (sym w.if-line_open.ensures)
-    ]
+    passed (open_line a.fence a.dirtied.now a.backed.now) (passing Open a.stored.now a.fenced.now) _ _ c.loop-b.b c.line_stop-stop.result c.loop-b.invariant.2
+    (omega arith) (omega (arith, s, fits)) (omega (arith, s)) (omega (arith, s)) (sym c.if-line_open.ensures)
 
 pub returns : goal.returns
 returns c = rw c.in_tables-part.ensures at (found_nothing _ _ _ c.loop-b.b c.loop-b.invariant.2 (omega arith))
