@@ -92,36 +92,37 @@ module _ (p : ℕ → Bool) (at n x : ℕ) (same : left p (at + n) x ≡ left p 
   pub part_later : (m : ℕ) → x + m ≤ at + n → lowest p x m ≡ none → left p (at + n) (x + m) ≡ left p (at + n) at
   part_later m h e = left_part p (at + n) x m h e ∙ same
 
--- a loop over k groups of eight from `at` on has come to group g, with what is left to skip leading to the same place as the whole
-module _ (p : ℕ → Bool) (at k g : ℕ) (same : skipped p (at + g * 8) (k - g) ≡ skipped p at k) where
-  one_group : g < k → k - g ≡ suc (k - (g + 1))
-  one_group h = omega arith
+-- what is left to skip
+abbrev pub left_skip : (ℕ → Bool) → ℕ → ℕ → ℕ
+left_skip p end x = skipped p x ((end - x) / 8)
+
+-- after each group eight less are left
+eight_less : (end x : ℕ) → x + 8 ≤ end → (end - x) / 8 ≡ suc ((end - (x + 8)) / 8)
+eight_less end x h = omega arith
+
+-- a loop from `at` on, with what is left to skip at x leading to the same place as the whole
+module _ (p : ℕ → Bool) (at n x : ℕ) (same : left_skip p (at + n) x ≡ left_skip p (at + n) at) where
+  -- at the first place all is left
+  whole : left_skip p (at + n) x ≡ skipped p at (n / 8)
+  whole = let e : at + n - at ≡ n = omega arith in rw e at same
 
   -- it ends at a group of which a number passes
-  pub skip_here : g < k → is_found (lowest p (at + g * 8) 8) ≡ true → at + g * 8 ≡ skipped p at k
+  pub skip_here : x + 8 ≤ at + n → is_found (lowest p x 8) ≡ true → x ≡ skipped p at (n / 8)
   unfolding skipped
-  skip_here h e = let here : skipped p (at + g * 8) (k - g) ≡ at + g * 8 = rw (one_group h, e) in sym here ∙ same
+  skip_here h e = let here : left_skip p (at + n) x ≡ x = rw (eight_less (at + n) x h, e) in sym here ∙ whole
 
   -- it goes on after one of which none does
-  pub skip_next : g < k → is_found (lowest p (at + g * 8) 8) ≡ false → skipped p (at + (g + 1) * 8) (k - (g + 1)) ≡ skipped p at k
+  pub skip_next : x + 8 ≤ at + n → is_found (lowest p x 8) ≡ false → left_skip p (at + n) (x + 8) ≡ left_skip p (at + n) at
   unfolding skipped
-  skip_next h e =
-      let start : at + (g + 1) * 8 ≡ at + g * 8 + 8 = omega arith in
-      let next : skipped p (at + g * 8 + 8) (k - (g + 1)) ≡ skipped p (at + g * 8) (k - g) = rw (one_group h, e) in
-      rw start (next ∙ same)
+  skip_next h e = let next : left_skip p (at + n) (x + 8) ≡ left_skip p (at + n) x = rw (eight_less (at + n) x h, e) in next ∙ same
 
-  -- it ends where no group is left
-  pub skip_end : g ≡ k → at + k * 8 ≡ skipped p at k
+  -- it ends where less than eight are left
+  pub skip_end : at + n < x + 8 → x ≡ skipped p at (n / 8)
   unfolding skipped
-  skip_end e =
-      let none : k - g ≡ 0 = omega arith in
-      let here : skipped p (at + g * 8) (k - g) ≡ at + g * 8 = rw none in
-      let all : at + k * 8 ≡ at + g * 8 = omega arith in
-      all ∙ sym here ∙ same
-
--- at the first group all is left
-pub skip_all : (p : ℕ → Bool) (at k : ℕ) → skipped p (at + 0 * 8) (k - 0) ≡ skipped p at k
-skip_all p at k = let start : at + 0 * 8 ≡ at = omega arith in let all : k - 0 ≡ k = omega arith in rw (start, all)
+  skip_end h =
+      let e : (at + n - x) / 8 ≡ 0 = omega arith in
+      let here : left_skip p (at + n) x ≡ x = rw e in
+      sym here ∙ whole
 
 -- after some groups passed over, the search over what is left is the same
 skip_left : (p : ℕ → Bool) (end k x : ℕ) → x + k * 8 ≤ end →

@@ -86,13 +86,15 @@ pub fn skip<P: Places>(places: &P, at: usize, n: usize) -> usize
     requires { (at + n ≤ 4096) × (at + n ≤ P.count places.now) }
     ensures { result ≡ skipped (P.passing places.now) at (n / 8) }
 {
-    for group in 0..n / 8 {
-        let b = at + group * 8;
+    let end = at + n;
+    let mut b = at;
+    while b + 8 <= end {
         if any(places, b, 8) {
             return b;
         }
+        b += 8;
     }
-    at + n / 8 * 8
+    b
 }
 
 // The lowest of the n places from `at` on that passes, one after another.

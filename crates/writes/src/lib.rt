@@ -16,9 +16,7 @@ fn fill(xs: &mut [u16], at: usize, n: usize, x: u16)
     requires { at + n ≤ length xs.old }
     ensures { xs.new ≡ filled x at n xs.old }
 {
-    for i in at..at + n {
-        xs[i] = x;
-    }
+    xs[at..at + n].fill(x);
 }
 
 // The entries of a range's bytes become x.

@@ -1,9 +1,0 @@
--- `writes::fill` meets its contract: the entries before i are filled.
--- Assumes nothing.
-use mathlib.Core.Path.{◌≡◌}
-use Prim.Native.Nat.{◌-◌}
-use Rattle.tables.specs.Table.{filled}
-use Rattle.writes.proofs.fill.Given as goal
-
-abbrev pub invariant-loop-i : goal.invariant-loop-i
-invariant-loop-i l = l.xs ≡ filled l.x l.at (l.i - l.at) l.initial.xs
