@@ -41,7 +41,8 @@ fn write_back_bytes(written: &mut [u16], stored: &[u16; 4096], at: usize, n: usi
     ensures { written.new ≡ changed (backed_now number stored.now) at n written.old }
 {
     let m = room(at, n, written.len());
-    for b in at..at + m {
+    for i in 0..m {
+        let b = at + i;
         written[b] = back_now(number, stored[b], written[b]);
     }
 }

@@ -63,21 +63,9 @@ module _ (f : ℕ → ℕ → ℕ) (at : ℕ) (xs : List ℕ) where
       go (yes a) (yes b) = rw (le-leb at k a, le-ltb k (at + n) b) (changed_above n k b)
       go (yes a) (no b) = rw (le-leb at k a, lt-ltb k (at + n) (omega arith)) (changed_inside n k a (omega arith) s)
 
-  -- a loop over the entries in a row: it begins with none of them changed
-  pub changed_before : xs ≡ changed f at (at - at) xs
-  unfolding changed
-  changed_before = let none : at - at ≡ 0 = omega arith in rw none
-
-  -- one turn: what it reads is what stood there, and what it writes is one more change
-  pub changed_up_to : (b : ℕ) {v : ℕ} {ys : List ℕ} → at ≤ b → ys ≡ changed f at (b - at) xs → v ≡ f b (get_or ys b 0) → set ys b v ≡ changed f at (b + 1 - at) xs
-  changed_up_to b h e k =
-      let more : b + 1 - at ≡ b - at + 1 = omega arith in
-      let here : at + (b - at) ≡ b = omega arith in
-      rw (k, e, more, changed_more (b - at), here, changed_above (b - at) b (omega arith))
-
-  -- the loop's end
-  pub changed_all : (b n : ℕ) {ys : List ℕ} → b ≡ at + n → ys ≡ changed f at (b - at) xs → ys ≡ changed f at n xs
-  changed_all b n h e = let all : b - at ≡ n = omega arith in rw all at e
+  -- one turn of a loop that changes the entries in a row: what it reads is what stood there, and what it writes is one more change
+  pub changed_turn : (n : ℕ) {v : ℕ} {ys : List ℕ} → ys ≡ changed f at n xs → v ≡ f (at + n) (get_or ys (at + n) 0) → set ys (at + n) v ≡ changed f at (n + 1) xs
+  changed_turn n e k = rw (k, e, changed_more n, changed_above n (at + n) (omega arith))
 
 -- a change of as many entries as one and then another has
 pub changed_add : (f : ℕ → ℕ → ℕ) (at m n : ℕ) (xs : List ℕ) → changed f at (m + n) xs ≡ changed f (at + m) n (changed f at m xs)

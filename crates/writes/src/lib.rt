@@ -16,7 +16,9 @@ fn fill(xs: &mut [u16], at: usize, n: usize, x: u16)
     requires { at + n ≤ length xs.old }
     ensures { xs.new ≡ filled x at n xs.old }
 {
-    xs[at..at + n].fill(x);
+    for i in 0..n {
+        xs[at + i] = x;
+    }
 }
 
 // The entries of a range's bytes become x.
@@ -60,7 +62,8 @@ fn close_line(fenced: &mut [u16; 4096], stored: &[u16; 4096], at: usize, back: u
     requires { at + 64 ≤ 4096 }
     ensures { fenced.new ≡ changed (λ b old. fence_now back number (entry stored.now b) old) at 64 fenced.old }
 {
-    for b in at..at + 64 {
+    for i in 0..64 {
+        let b = at + i;
         fenced[b] = fence_now(back, number, stored[b], fenced[b]);
     }
 }

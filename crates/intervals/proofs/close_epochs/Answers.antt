@@ -1,21 +1,30 @@
--- `intervals::close_epochs` meets its contract: the bytes before b are as after the fence, and those that the table lacks need not be.
+-- `intervals::close_epochs` meets its contract: the first b bytes are as after the fence, and those that the table lacks need not be.
 -- Assumes nothing.
-use mathlib.Core.Path.{◌≡◌}
-use Prim.Native.Nat.{◌-◌, min}
+use mathlib.Core.Path.{◌≡◌, refl}
+use Prim.Native.Nat.{◌+◌, ◌-◌, min}
+use native.Mathlib.Nat.{zero-add}
 use native.Mathlib.Omega.{arith}
-use lib.ListN.{length}
+use lib.ListN.{length, get_or}
 use Rattle.window.specs.Window.{window_bytes}
-use Rattle.tables.proofs.Table.{changed_before, changed_up_to, changed_all, changed_room}
+use Rattle.tables.specs.Table.{changed}
+use Rattle.tables.proofs.Table.{changed_turn, changed_room}
+use Rattle.intervals.specs.Now.{closed_now}
 use Rattle.intervals.proofs.close_epochs.Goals as goal
 
 pub loop-b-init : goal.loop-b-init
-loop-b-init c = changed_before _ 0 _
+unfolding changed
+loop-b-init c = refl
 
 pub loop-b-preserved : goal.loop-b-preserved
-loop-b-preserved c = changed_up_to _ 0 _ _ (omega arith) c.loop-b.invariant c.epoch_now.ensures
+loop-b-preserved c =
+    let k = c.loop-b in
+    let a = c.args in
+    let made : c.epoch_now.result ≡ closed_now a.number a.epoch a.fenced.now (0 + k.b) (get_or k.closed (0 + k.b) 0) =
+    rw zero-add c.epoch_now.ensures in
+    rw zero-add at (changed_turn _ 0 _ k.b k.invariant made)
 
 pub returns : goal.returns
 returns c =
     let lines = c.lines_of-lines.result in
-    let all : c.min-b-end.result ≡ min (window_bytes lines) (length c.args.closed.now - 0) = omega arith in
-    rw c.lines_of-lines.ensures at (changed_room _ 0 (window_bytes lines) _ all (changed_all _ 0 _ _ _ (omega arith) c.loop-b.invariant))
+    let last : c.loop-b.b ≡ min (window_bytes lines) (length c.args.closed.now - 0) = omega arith in
+    rw c.lines_of-lines.ensures at (changed_room _ 0 (window_bytes lines) _ last c.loop-b.invariant)

@@ -1,15 +1,21 @@
--- `intervals::write_back_bytes` meets its contract: the bytes before b are as after the write-back, and those that the table lacks need
--- not be.
+-- `intervals::write_back_bytes` meets its contract: after i turns the first i bytes are as after the write-back, and those that the table
+-- lacks need not be.
 -- Assumes nothing.
+use mathlib.Core.Path.{◌≡◌, refl}
 use native.Mathlib.Omega.{arith}
-use Rattle.tables.proofs.Table.{changed_before, changed_up_to, changed_all, changed_room}
+use Rattle.tables.specs.Table.{changed}
+use Rattle.tables.proofs.Table.{changed_turn, changed_room}
 use Rattle.intervals.proofs.write_back_bytes.Goals as goal
 
-pub loop-b-init : goal.loop-b-init
-loop-b-init c = changed_before _ _ _
+pub loop-i-init : goal.loop-i-init
+unfolding changed
+loop-i-init c = refl
 
-pub loop-b-preserved : goal.loop-b-preserved
-loop-b-preserved c = changed_up_to _ _ _ _ c.loop-b.auto.b c.loop-b.invariant c.back_now.ensures
+pub loop-i-preserved : goal.loop-i-preserved
+loop-i-preserved c = changed_turn _ _ _ _ c.loop-i.invariant c.back_now.ensures
 
 pub returns : goal.returns
-returns c = changed_room _ _ _ _ c.room-m.ensures (changed_all _ _ _ _ _ (omega arith) c.loop-b.invariant)
+returns c =
+    let k = c.loop-i in
+    let last : k.i ≡ c.room-m.result = omega arith in
+    changed_room _ _ _ _ c.room-m.ensures (rw last at k.invariant)

@@ -1,8 +1,13 @@
--- `writes::fill` meets its contract: the library fills the part.
+-- `writes::fill` meets its contract: after i turns the first i entries are filled.
 -- Assumes nothing.
-use native.Mathlib.Omega.{arith}
-use Rattle.tables.proofs.Table.{filled_part}
+use mathlib.Core.Path.{refl}
+use Rattle.tables.specs.Table.{changed}
+use Rattle.tables.proofs.Table.{changed_turn}
 use Rattle.writes.proofs.fill.Goals as goal
 
-pub returns : goal.returns
-returns c = filled_part _ _ _ _ _ c.requires (omega arith) (c.fill.ensures.after (λ y e. e))
+pub loop-i-init : goal.loop-i-init
+unfolding changed
+loop-i-init c = refl
+
+pub loop-i-preserved : goal.loop-i-preserved
+loop-i-preserved c = changed_turn _ _ _ _ c.loop-i.invariant refl
