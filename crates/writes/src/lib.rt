@@ -106,11 +106,12 @@ pub fn close_lines(
 {
     let fence = counts.fence;
     let end = tables::lines_of(counts) as usize;
-    for eight in 0..end / 8 {
-        let l = eight * 8;
+    let mut l = 0;
+    while l + 8 <= end {
         if searches::any_of_eight(Test::Since(fence), backed, backed, l) {
             close_some(fenced, stored, backed, l, l + 8, fence, number);
         }
+        l += 8;
     }
-    close_some(fenced, stored, backed, end / 8 * 8, end, fence, number);
+    close_some(fenced, stored, backed, l, end, fence, number);
 }
