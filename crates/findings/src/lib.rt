@@ -10,8 +10,8 @@ ghost use Rattle.searches.specs.Tests.{found_by, open_byte};
 ghost use Rattle.findings.specs.Findings.{durable_at, ended_at};
 
 use event::{Event, Finding, Range};
-use pairs::PairSearch;
-use searches::{Search, Test};
+use pairs::Pair;
+use searches::Test;
 use tables::Counts;
 
 // A store: unlogged, where a transaction is open.
@@ -22,8 +22,8 @@ pub fn of_store(counts: Counts, logged: &[u16; 4096], a: Range) -> Finding
         return Finding::None;
     }
     match searches::first_byte(Test::NotSince(counts.begin), logged, logged, a) {
-        Search::Nothing => Finding::None,
-        Search::At(b) => Finding::Unlogged { lost: b },
+        None => Finding::None,
+        Some(b) => Finding::Unlogged { lost: b },
     }
 }
 
@@ -33,8 +33,8 @@ pub fn of_back(dirtied: &[u16; 64], backed: &[u16; 64], a: Range) -> Finding
         finding_by (of_run (run_of (no_counts 0) [] [] [] [] [] [] dirtied.now backed.now)) (Event.WriteBack (in_tables a)) }
 {
     match searches::first_line(Test::Wasted, dirtied, backed, a) {
-        Search::Nothing => Finding::None,
-        Search::At(l) => {
+        None => Finding::None,
+        Some(l) => {
             let lost = window::line_start(l);
             let i = l as usize;
             if dirtied[i] == 0 {
@@ -51,19 +51,19 @@ pub fn of_log(counts: Counts, logged: &[u16; 4096], a: Range) -> Finding
     ensures { result ≡ finding_by (of_run (run_of counts [] logged.now [] [] [] [] [] [])) (Event.Log (in_tables a)) }
 {
     match searches::first_byte(Test::Since(counts.begin), logged, logged, a) {
-        Search::Nothing => Finding::None,
-        Search::At(b) => Finding::LoggedTwice { lost: b },
+        None => Finding::None,
+        Some(b) => Finding::LoggedTwice { lost: b },
     }
 }
 
 // Holds where a search found nothing, and lost at the byte that it found, by the event with this number.
-fn lost_at(number: u16, stored: &[u16; 4096], s: Search) -> Finding
+fn lost_at(number: u16, stored: &[u16; 4096], s: Option<u16>) -> Finding
     requires { (b : ℕ) → found_by s ≡ some b → b < 4096 }
     ensures { result ≡ durable_at number stored.now (found_by s) }
 {
     match s {
-        Search::Nothing => Finding::Holds,
-        Search::At(b) => {
+        None => Finding::Holds,
+        Some(b) => {
             let i = b as usize;
             Finding::Lost {
                 lost: b,
@@ -121,8 +121,8 @@ pub fn of_ordered(stored: &[u16; 4096], fenced: &[u16; 4096], a: Range, b: Range
         (Event.Ordered (in_tables a) (in_tables b)) }
 {
     match pairs::first_pair(stored, fenced, a, b) {
-        PairSearch::Nothing => Finding::Holds,
-        PairSearch::At { kept, lost } => {
+        None => Finding::Holds,
+        Some(Pair { kept, lost }) => {
             let k = kept as usize;
             let l = lost as usize;
             let moment = stored[k];

@@ -16,23 +16,16 @@ use tables::Counts;
 fn room(at: usize, n: usize, length: usize) -> usize
     ensures { result ≡ min n (length - at) }
 {
-    if length <= at {
-        return 0;
-    }
-    if n < length - at { n } else { length - at }
+    n.min(length.saturating_sub(at))
 }
 
 // A store: the intervals of its bytes open at this epoch.
 pub fn open_bytes(opened: &mut [u16], a: Range, epoch: u16)
     ensures { opened.new ≡ filled_bytes epoch a opened.old }
 {
-    let at = a.address as usize;
+    let at = (a.address as usize).min(opened.len());
     let n = room(at, a.length as usize, opened.len());
-    let mut i = 0;
-    while i < n {
-        opened[at + i] = epoch;
-        i += 1;
-    }
+    opened[at..at + n].fill(epoch);
 }
 
 // The first write-back after a byte's last store, after the write-back of its line with this number.
@@ -48,11 +41,9 @@ fn write_back_bytes(written: &mut [u16], stored: &[u16; 4096], at: usize, n: usi
     ensures { written.new ≡ changed (backed_now number stored.now) at n written.old }
 {
     let m = room(at, n, written.len());
-    let mut i = 0;
-    while i < m {
+    for i in 0..m {
         let b = at + i;
         written[b] = back_now(number, stored[b], written[b]);
-        i += 1;
     }
 }
 
@@ -89,10 +80,7 @@ pub fn close_epochs(
     ensures { closed.new ≡ changed (closed_now number epoch fenced.now) 0 (window_bytes (lines_of counts)) closed.old }
 {
     let lines = tables::lines_of(counts) as usize;
-    let n = room(0, lines * 64, closed.len());
-    let mut i = 0;
-    while i < n {
-        closed[i] = epoch_now(number, epoch, fenced[i], closed[i]);
-        i += 1;
+    for b in 0..closed.len().min(lines * 64) {
+        closed[b] = epoch_now(number, epoch, fenced[b], closed[b]);
     }
 }

@@ -10,7 +10,7 @@ use Rattle.ranges.specs.Ranges.{range_end}
 use Rattle.history.specs.Found.{lowest_in, lowest_pair, Pair}
 use Rattle.searches.proofs.FromFront.{left, one_less, left_here, left_end}
 use Rattle.searches.proofs.Searched.{lowest_none}
-use Rattle.pairs.specs.declared.PairSearch.TheVariants.{Nothing, At}
+use Rattle.std.specs.Prelude.{Some, None}
 use Rattle.pairs.specs.Pairs.{pair_searched}
 
 -- the search over what is left
@@ -42,7 +42,7 @@ module _ (p : ℕ → ℕ → Bool) (a : Range) where
   module _ (start m x : ℕ) (same : left_pair p a (start + m) x ≡ left_pair p a (start + m) start) where
     -- they are left at a pair that passes
     pub pair_here : (y : ℕ) → left (p x) (range_end a) y ≡ lowest_in (p x) a → x < start + m → y < range_end a → p x y ≡ true →
-        At x y ≡ pair_searched (lowest_pair p a start m)
+        Some (record { kept = x; lost = y }) ≡ pair_searched (lowest_pair p a start m)
     unfolding pair_searched
     pair_here y inner h k e =
         let partner : lowest_in (p x) a ≡ some y = sym inner ∙ left_here (p x) (range_end a) y k e in
@@ -58,6 +58,6 @@ module _ (p : ℕ → ℕ → Bool) (a : Range) where
     pair_never never h = pairs_next (start + m) x h (lowest_none (p x) a.length a.address (λ y low high. never y)) ∙ same
 
     -- it ends where nothing is left
-    pub pair_nothing : start + m ≤ x → Nothing ≡ pair_searched (lowest_pair p a start m)
+    pub pair_nothing : start + m ≤ x → None ≡ pair_searched (lowest_pair p a start m)
     unfolding pair_searched
     pair_nothing h = ap pair_searched (sym (pairs_end (start + m) x h) ∙ same ∙ left_all_pairs start m)

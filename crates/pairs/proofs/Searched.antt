@@ -1,5 +1,5 @@
 -- What a search over pairs found, by what it answered.
-use mathlib.Core.Path.{◌≡◌, refl}
+use mathlib.Core.Path.{◌≡◌, refl, ap}
 use mathlib.Core.Bool.{Bool}
 use mathlib.Core.Option.{Option, none, some}
 use Prim.Native.Nat.{ℕ, zero, suc, ◌+◌, ◌<◌}
@@ -8,24 +8,26 @@ use Rattle.event.specs.declared.Range.{Range}
 use Rattle.ranges.specs.Ranges.{range_end}
 use Rattle.history.specs.Found.{lowest_in, lowest_pair, or_pair, Pair}
 use Rattle.searches.proofs.Searched.{lowest_below}
-use Rattle.pairs.specs.declared.PairSearch.{PairSearch}
-use Rattle.pairs.specs.declared.PairSearch.TheVariants.{Nothing, At}
+use Rattle.std.specs.Prelude.{Option as Answer, Some, None}
+use Rattle.pairs.specs.declared.Pair.{Pair as Answered}
 use Rattle.pairs.specs.Pairs.{pair_searched}
 
 -- no pair
-pub found_no_pair : (found : Option Pair) {s : PairSearch} → s ≡ Nothing → s ≡ pair_searched found → found ≡ none
+pub found_no_pair : (found : Option Pair) {s : Answer Answered} → s ≡ None → s ≡ pair_searched found → found ≡ none
 unfolding pair_searched
 found_no_pair none e f = refl
 found_no_pair (some p) e f = let z : ◌≡◌ {A = ℕ} 0 1 = cc in absurd (omega arith)
 
 -- a pair
-pub found_pair : (found : Option Pair) {s : PairSearch} {kept lost : ℕ} →
-    s ≡ At kept lost → s ≡ pair_searched found → found ≡ some (record { kept = kept; lost = lost })
+pub found_pair : (found : Option Pair) {s : Answer Answered} {kept lost : ℕ} →
+    s ≡ Some (record { kept = kept; lost = lost }) → s ≡ pair_searched found → found ≡ some (record { kept = kept; lost = lost })
 unfolding pair_searched
 found_pair none e f = let z : ◌≡◌ {A = ℕ} 0 1 = cc in absurd (omega arith)
 found_pair (some p) {s} {kept} {lost} e f =
-    let k : kept ≡ p.kept = cc in
-    let l : lost ≡ p.lost = cc in
+    let q : Answered = record { kept = p.kept; lost = p.lost } in
+    let same : record { kept = kept; lost = lost } ≡ q = cc in
+    let k : kept ≡ p.kept = ap (λ a. a.kept) same in
+    let l : lost ≡ p.lost = ap (λ a. a.lost) same in
     rw (k, l)
 
 -- what is found is within what was searched

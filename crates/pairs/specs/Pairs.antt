@@ -1,17 +1,16 @@
 -- The pairs of bytes that break an order, and what a search for them finds.
-use Rattle.std.specs.Prelude.{Bool, cond, not, ◌&&◌, ◌||◌, List, ℕ, ltb, eqb}
+use Rattle.std.specs.Prelude.{Option as Answer, Some, None, Bool, cond, not, ◌&&◌, ◌||◌, List, ℕ, ltb, eqb}
 use Rattle.std.proofs.Math.Option.{Option, none, some}
 use Rattle.window.specs.Window.{line_of, word_of}
-use Rattle.history.specs.Found.{Pair}
+use Rattle.history.specs.Found.{Pair as Found}
 use Rattle.tables.specs.Table.{entry}
 use Rattle.pairs.specs.declared.Kept.{Kept}
-use Rattle.pairs.specs.declared.PairSearch.{PairSearch}
-use Rattle.pairs.specs.declared.PairSearch.TheVariants.{Nothing, At}
+use Rattle.pairs.specs.declared.Pair.{Pair}
 
 -- what a search answers
-unfoldable pub pair_searched : Option Pair → PairSearch
-pair_searched none = Nothing
-pair_searched (some p) = At p.kept p.lost
+unfoldable pub pair_searched : Option Found → Answer Pair
+pair_searched none = None
+pair_searched (some p) = Some (record { kept = p.kept; lost = p.lost })
 
 -- a crash may keep the first byte and lose the second: by their last stores, whether one line has both and whether one word has, and the
 -- fence that closed the lost byte's interval; on two lines if that fence is older than the lost store or younger than the kept one

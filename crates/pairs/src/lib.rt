@@ -2,19 +2,19 @@
 // it that the tables have.
 #![tactic(auto)]
 
-ghost use Rattle.std.specs.Prelude.{◌≡◌, ◌+◌, ◌/◌, ◌≤◌, ◌<◌};
-ghost use Rattle.history.specs.Found.{lowest, lowest_pair};
+ghost use Rattle.std.specs.Prelude.{◌≡◌, ◌+◌, ◌≤◌};
+ghost use Rattle.history.specs.Found.{lowest_pair};
 ghost use Rattle.tables.specs.Table.{in_tables};
-ghost use Rattle.searches.specs.Tests.{is_found, skipped};
 ghost use Rattle.pairs.specs.Pairs.{pair_searched, is_broken, lost_with, broken_pair};
 
 use event::Range;
+use searches::Places;
 
-// What a search over pairs of bytes found.
-#[derive(Clone, Copy)]
-pub enum PairSearch {
-    Nothing,
-    At { kept: u16, lost: u16 },
+// A byte that a crash may keep, and one that it loses with it.
+#[derive(Clone, Copy, Debug, PartialEq, Eq)]
+pub struct Pair {
+    pub kept: u16,
+    pub lost: u16,
 }
 
 // What is asked of a byte that a crash may keep: its last store, its line and its word.
@@ -36,46 +36,25 @@ fn is_broken(kept_store: u16, lost_store: u16, one_line: bool, one_word: bool, f
     (kept_store != 0) & ((one_line & (later | torn)) | (!one_line & open))
 }
 
-// Whether a crash may lose byte b and keep this one.
-fn may_lose(stored: &[u16; 4096], fenced: &[u16; 4096], kept: Kept, b: usize) -> bool
-    requires { b < 4096 }
-    ensures { result ≡ lost_with stored.now fenced.now kept b }
-{
-    let lost = b as u16;
-    let one_line = kept.line == lost / 64;
-    let one_word = kept.word == lost / 8;
-    is_broken(kept.store, stored[b], one_line, one_word, fenced[b])
+// The bytes that it may lose while it keeps that one.
+#[derive(Drop)]
+struct Losable<'a> {
+    stored: &'a [u16; 4096],
+    fenced: &'a [u16; 4096],
+    kept: Kept,
 }
 
-// Whether it may lose one of the n bytes from `at` on.
-fn any_lost(stored: &[u16; 4096], fenced: &[u16; 4096], kept: Kept, at: usize, n: usize) -> bool
-    requires { at + n ≤ 4096 }
-    ensures { result ≡ is_found (lowest (lost_with stored.now fenced.now kept) at n) }
-{
-    let mut found = false;
-    let mut i = 0;
-    while i < n {
-        found = found | may_lose(stored, fenced, kept, at + i);
-        i += 1;
-    }
-    found
-}
+impl<'a> Places for Losable<'a> {
+    ghost count = { λ _. 4096 };
 
-// The n bytes from `at` on are looked at in groups of eight: the start of the first group of which it may lose a byte, or the place after
-// the last whole group.
-fn skip_lost(stored: &[u16; 4096], fenced: &[u16; 4096], kept: Kept, at: usize, n: usize) -> usize
-    requires { at + n ≤ 4096 }
-    ensures { result ≡ skipped (lost_with stored.now fenced.now kept) at (n / 8) }
-{
-    let end = at + n;
-    let mut b = at;
-    while b + 8 <= end {
-        if any_lost(stored, fenced, kept, b, 8) {
-            return b;
-        }
-        b += 8;
+    ghost passing = { λ l. lost_with l.stored.now l.fenced.now l.kept };
+
+    fn passes(&self, b: usize) -> bool {
+        let lost = b as u16;
+        let one_line = self.kept.line == lost / 64;
+        let one_word = self.kept.word == lost / 8;
+        is_broken(self.kept.store, self.stored[b], one_line, one_word, self.fenced[b])
     }
-    b
 }
 
 // The lowest of the m bytes from `start` on that a crash may keep while it loses one of the n from `at` on, and the lowest that it
@@ -87,7 +66,7 @@ fn first_broken(
     n: usize,
     start: usize,
     m: usize,
-) -> PairSearch
+) -> Option<Pair>
     requires { (at + n ≤ 4096) × (start + m ≤ 4096) }
     ensures { result ≡
         pair_searched
@@ -97,38 +76,37 @@ fn first_broken(
         start
         m) }
 {
-    let mut found = PairSearch::Nothing;
-    let mut kept = start;
-    let kept_end = start + m;
-    let lost_end = at + n;
-    'kept: while kept < kept_end {
+    let mut found = None;
+    'kept: for kept in start..start + m {
         let store = stored[kept];
         if store != 0 {
             let byte = kept as u16;
             let asked = Kept {
-                store: store,
+                store,
                 line: byte / 64,
                 word: byte / 8,
             };
-            let mut lost = skip_lost(stored, fenced, asked, at, n);
-            while lost < lost_end {
-                if may_lose(stored, fenced, asked, lost) {
-                    found = PairSearch::At {
+            let losable = Losable {
+                stored,
+                fenced,
+                kept: asked,
+            };
+            for lost in searches::skip(&losable, at, n)..at + n {
+                if losable.passes(lost) {
+                    found = Some(Pair {
                         kept: byte,
                         lost: lost as u16,
-                    };
+                    });
                     break 'kept;
                 }
-                lost += 1;
             }
         }
-        kept += 1;
     }
     found
 }
 
 // The lowest byte of B that a crash may keep while it loses one of A, and the lowest that it loses with it.
-pub fn first_pair(stored: &[u16; 4096], fenced: &[u16; 4096], a: Range, b: Range) -> PairSearch
+pub fn first_pair(stored: &[u16; 4096], fenced: &[u16; 4096], a: Range, b: Range) -> Option<Pair>
     ensures { result ≡
         pair_searched
         (lowest_pair

@@ -7,7 +7,7 @@ use native.Mathlib.Omega.{arith}
 use borrow.Author.Tests.{lt-ltb}
 use Rattle.window.specs.Window.{line_of, line_start}
 use Rattle.history.specs.Found.{lowest}
-use Rattle.searches.specs.declared.Search.{Search}
+use Rattle.std.specs.Prelude.{Option as Answer}
 use Rattle.searches.specs.Tests.{searched}
 use Rattle.searches.proofs.Searched.{lowest_none, lowest_same}
 
@@ -26,7 +26,7 @@ module _ (line byte : ℕ → Bool) (l at n : ℕ) (from : l * 64 ≤ at) (to : 
   line_looked e = lowest_same byte (by_line line byte) n at (λ k a b. let on : line_of k ≡ l = omega arith in rw (on, e))
 
 -- a whole line, searched from its start on
-pub line_searched : (line byte : ℕ → Bool) (l : ℕ) → line l ≡ true → l < 64 → {at : ℕ} {s : Search} → at ≡ line_start l →
+pub line_searched : (line byte : ℕ → Bool) (l : ℕ) → line l ≡ true → l < 64 → {at : ℕ} {s : Answer ℕ} → at ≡ line_start l →
     s ≡ searched (lowest byte at 64) → s ≡ searched (lowest (by_line line byte) (l * 64) 64)
 line_searched line byte l e low {at} start found =
     let at_line : at ≡ l * 64 = start ∙ rw (lt-ltb l 64 low) in

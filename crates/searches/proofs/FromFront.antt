@@ -6,7 +6,7 @@ use Prim.Native.Nat.{ℕ, suc, ◌+◌, ◌-◌, ◌≤◌, ◌<◌}
 use native.Mathlib.Omega.{arith}
 use native.Mathlib.Numerals.{add-one}
 use Rattle.history.specs.Found.{lowest}
-use Rattle.searches.specs.declared.Search.TheVariants.{Nothing, At}
+use Rattle.std.specs.Prelude.{Some, None}
 use Rattle.searches.specs.Tests.{searched}
 
 -- the search over what is left
@@ -40,7 +40,7 @@ module _ (p : ℕ → Bool) (end : ℕ) where
 -- a loop from `at` on, with the search over what is left at x the same as the whole
 module _ (p : ℕ → Bool) (at n x : ℕ) (same : left p (at + n) x ≡ left p (at + n) at) where
   -- it is left at a place that passes
-  pub found_here : x < at + n → p x ≡ true → At x ≡ searched (lowest p at n)
+  pub found_here : x < at + n → p x ≡ true → Some x ≡ searched (lowest p at n)
   unfolding searched
   found_here h e = ap searched (sym (left_here p (at + n) x h e) ∙ same ∙ left_all p at n)
 
@@ -49,6 +49,6 @@ module _ (p : ℕ → Bool) (at n x : ℕ) (same : left p (at + n) x ≡ left p 
   found_later h e = left_next p (at + n) x h e ∙ same
 
   -- it ends where nothing is left
-  pub found_nothing : at + n ≤ x → Nothing ≡ searched (lowest p at n)
+  pub found_nothing : at + n ≤ x → None ≡ searched (lowest p at n)
   unfolding searched
   found_nothing h = ap searched (sym (left_end p (at + n) x h) ∙ same ∙ left_all p at n)

@@ -7,8 +7,8 @@ use native.Mathlib.Omega.{arith}
 use native.Mathlib.Nat.{zero-add, add-zero}
 use native.Mathlib.Decide.{ℕ_discrete as dec_eq}
 use Rattle.history.specs.Found.{lowest}
-use Rattle.searches.specs.declared.Search.{Search}
-use Rattle.searches.specs.declared.Search.TheVariants.{At}
+use Rattle.std.specs.Prelude.{Option as Answer}
+use Rattle.std.specs.Prelude.{Some}
 use Rattle.searches.specs.Tests.{searched, is_found, skipped}
 use Rattle.searches.proofs.FromFront.{left, left_all}
 
@@ -73,13 +73,13 @@ left_part p end x m h e = sym (left_add p end x m h ∙ rw e)
 -- a loop from `at` on, with the search over what is left at x the same as the whole
 module _ (p : ℕ → Bool) (at n x : ℕ) (same : left p (at + n) x ≡ left p (at + n) at) where
   -- it is left at a part in which something passes
-  pub part_here : (m : ℕ) {y : ℕ} → x + m ≤ at + n → lowest p x m ≡ some y → At y ≡ searched (lowest p at n)
+  pub part_here : (m : ℕ) {y : ℕ} → x + m ≤ at + n → lowest p x m ≡ some y → Some y ≡ searched (lowest p at n)
   unfolding searched
   part_here m {y} h e =
       let here : left p (at + n) x ≡ some y = left_add p (at + n) x m h ∙ rw e in
       ap searched (sym here ∙ same ∙ left_all p at n)
 
-  pub part_found : (m : ℕ) {s : Search} → x + m ≤ at + n → is_found (lowest p x m) ≡ true → s ≡ searched (lowest p x m) → s ≡ searched (lowest p at n)
+  pub part_found : (m : ℕ) {s : Answer ℕ} → x + m ≤ at + n → is_found (lowest p x m) ≡ true → s ≡ searched (lowest p x m) → s ≡ searched (lowest p at n)
   part_found m {s} h e found = go (lowest p x m) refl e
     where
       go : (o : Option ℕ) → lowest p x m ≡ o → is_found o ≡ true → s ≡ searched (lowest p at n)
@@ -91,10 +91,6 @@ module _ (p : ℕ → Bool) (at n x : ℕ) (same : left p (at + n) x ≡ left p 
   -- it goes on after one in which nothing does
   pub part_later : (m : ℕ) → x + m ≤ at + n → lowest p x m ≡ none → left p (at + n) (x + m) ≡ left p (at + n) at
   part_later m h e = left_part p (at + n) x m h e ∙ same
-
-  -- it ends, and what is left is searched
-  pub part_last : {s : Search} → s ≡ searched (left p (at + n) x) → s ≡ searched (lowest p at n)
-  part_last e = e ∙ ap searched (same ∙ left_all p at n)
 
 -- what is left to skip
 abbrev pub left_skip : (ℕ → Bool) → ℕ → ℕ → ℕ

@@ -5,24 +5,24 @@ use mathlib.Core.Option.{Option, none, some}
 use Prim.Native.Nat.{ℕ, zero, suc, ◌+◌, ◌≤◌, ◌<◌}
 use native.Mathlib.Omega.{arith}
 use Rattle.history.specs.Found.{lowest}
-use Rattle.searches.specs.declared.Search.{Search}
-use Rattle.searches.specs.declared.Search.TheVariants.{Nothing, At}
+use Rattle.std.specs.Prelude.{Option as Answer}
+use Rattle.std.specs.Prelude.{Some, None}
 use Rattle.searches.specs.Tests.{searched, found_by}
 
 -- nothing
-pub found_none : (found : Option ℕ) {s : Search} → s ≡ Nothing → s ≡ searched found → found ≡ none
+pub found_none : (found : Option ℕ) {s : Answer ℕ} → s ≡ None → s ≡ searched found → found ≡ none
 unfolding searched
 found_none none e f = refl
 found_none (some x) e f = let z : ◌≡◌ {A = ℕ} 0 1 = cc in absurd (omega arith)
 
 -- a byte or a line
-pub found_some : (found : Option ℕ) {s : Search} {x : ℕ} → s ≡ At x → s ≡ searched found → found ≡ some x
+pub found_some : (found : Option ℕ) {s : Answer ℕ} {x : ℕ} → s ≡ Some x → s ≡ searched found → found ≡ some x
 unfolding searched
 found_some none e f = let z : ◌≡◌ {A = ℕ} 0 1 = cc in absurd (omega arith)
 found_some (some y) e f = cc
 
 -- either, by the answer
-pub found_by_lem : (found : Option ℕ) {s : Search} → s ≡ searched found → found_by s ≡ found
+pub found_by_lem : (found : Option ℕ) {s : Answer ℕ} → s ≡ searched found → found_by s ≡ found
 unfolding searched
 found_by_lem none e = rw e
 found_by_lem (some x) e = rw e

@@ -1,5 +1,5 @@
 -- The tests that searches make on the tables, and what they find.
-use Rattle.std.specs.Prelude.{Bool, true, false, cond, not, ◌&&◌, ◌||◌, List, ℕ, zero, suc, ◌+◌, ltb, eqb}
+use Rattle.std.specs.Prelude.{Option as Answer, Some, None, Bool, true, false, cond, not, ◌&&◌, ◌||◌, List, ℕ, zero, suc, ◌+◌, ltb, eqb}
 use Rattle.std.proofs.Math.Option.{Option, none, some}
 use Rattle.window.specs.Window.{line_of}
 use Rattle.history.specs.Found.{lowest}
@@ -7,18 +7,16 @@ use Rattle.tables.specs.Table.{entry}
 use Rattle.tables.specs.View.{open_line}
 use Rattle.searches.specs.declared.Test.{Test}
 use Rattle.searches.specs.declared.Test.TheVariants.{Since, NotSince, OpenSince, Open, Wasted}
-use Rattle.searches.specs.declared.Search.{Search}
-use Rattle.searches.specs.declared.Search.TheVariants.{Nothing, At}
 
 -- what a search answers
-unfoldable pub searched : Option ℕ → Search
-searched none = Nothing
-searched (some x) = At x
+unfoldable pub searched : Option ℕ → Answer ℕ
+searched none = None
+searched (some x) = Some x
 
 -- what it found, by its answer
-abbrev pub found_by : Search → Option ℕ
-found_by Nothing = none
-found_by (At x) = some x
+abbrev pub found_by : Answer ℕ → Option ℕ
+found_by None = none
+found_by (Some x) = some x
 
 -- it found something
 abbrev pub is_found : Option ℕ → Bool

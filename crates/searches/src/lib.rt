@@ -2,13 +2,13 @@
 // tables have.
 #![tactic(auto)]
 
-ghost use Rattle.std.specs.Prelude.{◌≡◌, ◌&&◌, ◌+◌, ◌/◌, ◌≤◌, min, leb, ltb, length};
+ghost use Rattle.std.specs.Prelude.{◌≡◌, ℕ, Bool, ◌&&◌, ◌+◌, ◌/◌, ◌≤◌, ◌<◌, min, leb, ltb, length};
 ghost use Rattle.window.specs.Window.{window_bytes, line_of};
 ghost use Rattle.ranges.specs.Ranges.{line_count};
 ghost use Rattle.history.specs.Found.{lowest, lowest_in};
 ghost use Rattle.tables.specs.Table.{in_tables};
 ghost use Rattle.tables.specs.View.{line_open, lines_of};
-ghost use Rattle.searches.specs.Tests.{searched, is_found, passes_by, passing, skipped, open_byte, lost_at_end};
+ghost use Rattle.searches.specs.Tests.{searched, is_found, passing, skipped, open_byte, lost_at_end};
 
 use event::Range;
 use tables::Counts;
@@ -23,36 +23,52 @@ pub enum Test {
     Wasted, // no store, or none since the last write-back
 }
 
-// What it found.
-#[derive(Clone, Copy)]
-pub enum Search {
-    Nothing,
-    At(u16),
+// Numbered places, bytes or lines, that a search asks one after another.
+pub trait Places {
+    ghost count: { Self → ℕ }; // how many there are
+
+    ghost passing: { Self → ℕ → Bool };
+
+    // Whether a place is what the search looks for.
+    fn passes(&self, at: usize) -> bool
+        requires { at < count self.now }
+        ensures { result ≡ passing self.now at };
 }
 
-// Whether the entries of a byte or a line in two tables are what the test looks for.
-fn passes(test: Test, x: u16, y: u16) -> bool
-    ensures { result ≡ passes_by test x y }
-{
-    match test {
-        Test::Since(n) => n < x,
-        Test::NotSince(n) => !(n < x),
-        Test::OpenSince(n) => n < x && y < x,
-        Test::Open => y < x,
-        Test::Wasted => x == 0 || x < y,
+// The bytes or lines by their entries in two tables.
+#[derive(Drop)]
+struct Entries<'a> {
+    test: Test,
+    xs: &'a [u16],
+    ys: &'a [u16],
+}
+
+impl<'a> Places for Entries<'a> {
+    ghost count = { λ e. min (length e.xs.now) (length e.ys.now) };
+
+    ghost passing = { λ e. passing e.test e.xs.now e.ys.now };
+
+    fn passes(&self, at: usize) -> bool {
+        let x = self.xs[at];
+        let y = self.ys[at];
+        match self.test {
+            Test::Since(n) => n < x,
+            Test::NotSince(n) => x <= n,
+            Test::OpenSince(n) => n < x && y < x,
+            Test::Open => y < x,
+            Test::Wasted => x == 0 || x < y,
+        }
     }
 }
 
-// Whether one of the n from `at` on is such a byte or line. Every entry is looked at, so that several can be looked at at once.
-fn any(test: Test, xs: &[u16], ys: &[u16], at: usize, n: usize) -> bool
-    requires { (at + n ≤ length xs.now) × (at + n ≤ length ys.now) }
-    ensures { result ≡ is_found (lowest (passing test xs.now ys.now) at n) }
+// Whether one of the n places from `at` on passes. Every one is looked at, so that several can be looked at at once.
+fn any<P: Places>(places: &P, at: usize, n: usize) -> bool
+    requires { (at + n ≤ 4096) × (at + n ≤ P.count places.now) }
+    ensures { result ≡ is_found (lowest (P.passing places.now) at n) }
 {
     let mut found = false;
-    let mut i = 0;
-    while i < n {
-        found = found | passes(test, xs[at + i], ys[at + i]);
-        i += 1;
+    for i in 0..n {
+        found |= places.passes(at + i);
     }
     found
 }
@@ -61,23 +77,19 @@ fn any(test: Test, xs: &[u16], ys: &[u16], at: usize, n: usize) -> bool
 pub fn any_of_eight(test: Test, xs: &[u16; 64], ys: &[u16; 64], at: usize) -> bool
     ensures { result ≡ (leb at 56 && is_found (lowest (passing test xs.now ys.now) at 8)) }
 {
-    if at <= 56 {
-        any(test, xs, ys, at, 8)
-    } else {
-        false
-    }
+    at <= 56 && any(&Entries { test, xs, ys }, at, 8)
 }
 
-// The n entries from `at` on are looked at in groups of eight: the start of the first group that has such a byte or line, or the place
-// after the last whole group.
-fn skip(test: Test, xs: &[u16], ys: &[u16], at: usize, n: usize) -> usize
-    requires { (at + n ≤ 4096) × (at + n ≤ length xs.now) × (at + n ≤ length ys.now) }
-    ensures { result ≡ skipped (passing test xs.now ys.now) at (n / 8) }
+// The n places from `at` on are looked at in groups of eight: the start of the first group of which one passes, or the place after the
+// last whole group.
+pub fn skip<P: Places>(places: &P, at: usize, n: usize) -> usize
+    requires { (at + n ≤ 4096) × (at + n ≤ P.count places.now) }
+    ensures { result ≡ skipped (P.passing places.now) at (n / 8) }
 {
     let end = at + n;
     let mut b = at;
     while b + 8 <= end {
-        if any(test, xs, ys, b, 8) {
+        if any(places, b, 8) {
             return b;
         }
         b += 8;
@@ -85,24 +97,21 @@ fn skip(test: Test, xs: &[u16], ys: &[u16], at: usize, n: usize) -> usize
     b
 }
 
-// The lowest such byte or line of the n from `at` on, one after another.
-fn scan(test: Test, xs: &[u16], ys: &[u16], at: usize, n: usize) -> Search
-    requires { (at + n ≤ 4096) × (at + n ≤ length xs.now) × (at + n ≤ length ys.now) }
-    ensures { result ≡ searched (lowest (passing test xs.now ys.now) at n) }
+// The lowest of the n places from `at` on that passes, one after another.
+fn scan<P: Places>(places: &P, at: usize, n: usize) -> Option<u16>
+    requires { (at + n ≤ 4096) × (at + n ≤ P.count places.now) }
+    ensures { result ≡ searched (lowest (P.passing places.now) at n) }
 {
-    let mut b = at;
-    let end = at + n;
-    while b < end {
-        if passes(test, xs[b], ys[b]) {
-            return Search::At(b as u16);
+    for b in at..at + n {
+        if places.passes(b) {
+            return Some(b as u16);
         }
-        b += 1;
     }
-    Search::Nothing
+    None
 }
 
 // The lowest line that a range touches and that passes the test.
-pub fn first_line(test: Test, xs: &[u16; 64], ys: &[u16; 64], a: Range) -> Search
+pub fn first_line(test: Test, xs: &[u16; 64], ys: &[u16; 64], a: Range) -> Option<u16>
     ensures { result ≡
         searched
         (lowest (passing test xs.now ys.now) (line_of (in_tables a).address) (line_count (in_tables a))) }
@@ -110,24 +119,24 @@ pub fn first_line(test: Test, xs: &[u16; 64], ys: &[u16; 64], a: Range) -> Searc
     let part = tables::in_tables(a);
     let at = window::line_of(part.address) as usize;
     let n = ranges::line_count(part) as usize;
-    scan(test, xs, ys, at, n)
+    scan(&Entries { test, xs, ys }, at, n)
 }
 
-// The lowest such byte of the n from `at` on.
-fn first(test: Test, xs: &[u16; 4096], ys: &[u16; 4096], at: usize, n: usize) -> Search
-    requires { at + n ≤ 4096 }
-    ensures { result ≡ searched (lowest (passing test xs.now ys.now) at n) }
+// The lowest of the n places from `at` on that passes.
+fn first<P: Places>(places: &P, at: usize, n: usize) -> Option<u16>
+    requires { (at + n ≤ 4096) × (at + n ≤ P.count places.now) }
+    ensures { result ≡ searched (lowest (P.passing places.now) at n) }
 {
-    let b = skip(test, xs, ys, at, n);
-    scan(test, xs, ys, b, at + n - b)
+    let b = skip(places, at, n);
+    scan(places, b, at + n - b)
 }
 
 // The lowest byte of a range that passes the test.
-pub fn first_byte(test: Test, xs: &[u16; 4096], ys: &[u16; 4096], a: Range) -> Search
+pub fn first_byte(test: Test, xs: &[u16; 4096], ys: &[u16; 4096], a: Range) -> Option<u16>
     ensures { result ≡ searched (lowest_in (passing test xs.now ys.now) (in_tables a)) }
 {
     let part = tables::in_tables(a);
-    first(test, xs, ys, part.address as usize, part.length as usize)
+    first(&Entries { test, xs, ys }, part.address as usize, part.length as usize)
 }
 
 // The end of the line of a byte, or of what is searched, whichever comes first.
@@ -135,8 +144,7 @@ fn line_stop(b: usize, end: usize) -> usize
     requires { b ≤ 4096 }
     ensures { result ≡ min (window_bytes (line_of b + 1)) end }
 {
-    let next = (b / 64 + 1) * 64;
-    if next < end { next } else { end }
+    ((b / 64 + 1) * 64).min(end)
 }
 
 // The lowest byte of a range whose interval is open, line by line. Lines that have no open byte by their last store and their last
@@ -148,25 +156,30 @@ pub fn first_open(
     dirtied: &[u16; 64],
     backed: &[u16; 64],
     a: Range,
-) -> Search
+) -> Option<u16>
     ensures { result ≡
         searched
         (lowest_in (open_byte fence stored.now fenced.now dirtied.now backed.now) (in_tables a)) }
 {
     let part = tables::in_tables(a);
+    let open = Entries {
+        test: Test::Open,
+        xs: stored,
+        ys: fenced,
+    };
     let mut b = part.address as usize;
     let end = b + part.length as usize;
     while b < end {
         let l = b / 64;
         let stop = line_stop(b, end);
         if tables::line_open(fence, dirtied[l], backed[l]) {
-            if any(Test::Open, stored, fenced, b, stop - b) {
-                return first(Test::Open, stored, fenced, b, stop - b);
+            if any(&open, b, stop - b) {
+                return first(&open, b, stop - b);
             }
         }
         b = stop;
     }
-    Search::Nothing
+    None
 }
 
 // Whether a line was stored to after the outermost begin and may have an open byte.
@@ -184,7 +197,7 @@ pub fn first_since_begin(
     fenced: &[u16; 4096],
     dirtied: &[u16; 64],
     backed: &[u16; 64],
-) -> Search
+) -> Option<u16>
     ensures { result ≡
         searched
         (lowest
@@ -195,18 +208,18 @@ pub fn first_since_begin(
     let begin = counts.begin;
     let fence = counts.fence;
     let lines = tables::lines_of(counts) as usize;
-    let mut l = 0;
-    while l < lines {
+    let lost = Entries {
+        test: Test::OpenSince(begin),
+        xs: stored,
+        ys: fenced,
+    };
+    for l in 0..lines {
         if line_at_end(begin, fence, dirtied[l], backed[l]) {
             let at = window::line_start(l as u16) as usize;
-            match first(Test::OpenSince(begin), stored, fenced, at, 64) {
-                Search::Nothing => {}
-                Search::At(b) => {
-                    return Search::At(b);
-                }
+            if let Some(b) = first(&lost, at, 64) {
+                return Some(b);
             }
         }
-        l += 1;
     }
-    Search::Nothing
+    None
 }

@@ -26,10 +26,6 @@ in_tables_lines a = go (is_empty (in_tables a)) refl
         let all : line_count (in_tables a) ≡ (range_end (in_tables a) - 1) / 64 + 1 - (in_tables a).address / 64 = rw e in
         omega arith
 
--- as they are computed, one after another
-pub part_lines : (a : Range) {part : Range} {at n : ℕ} → part ≡ in_tables a → at ≡ line_of part.address → n ≡ line_count part → at + n ≤ 64
-part_lines a p l c = rw (l, c, p) (in_tables_lines a)
-
 -- a range within them is all there
 module _ (a : Range) (h : range_end a ≤ 4096) where
   pub in_tables_address : min a.address 4096 ≡ a.address

@@ -1,7 +1,7 @@
 // The tables of a run, its numbers, a byte's interval from its entries, and the part of a range that the tables have.
 #![tactic(auto)]
 
-ghost use Rattle.std.specs.Prelude.{◌≡◌, min};
+ghost use Rattle.std.specs.Prelude.{◌≡◌};
 ghost use Rattle.tables.specs.Table.{in_tables};
 ghost use Rattle.tables.specs.View.{no_counts, lines_of, begin_after, store_after, line_open, since_store, interval_from, named_from};
 
@@ -52,18 +52,11 @@ pub fn no_counts(lines: u16) -> Counts
     }
 }
 
-// The lower of two numbers.
-fn lower(x: u16, y: u16) -> u16
-    ensures { result ≡ min x y }
-{
-    if x < y { x } else { y }
-}
-
 // The window's lines, at most those of the largest window.
 pub fn lines_of(counts: Counts) -> u16
     ensures { result ≡ lines_of counts }
 {
-    lower(counts.lines, 64)
+    counts.lines.min(64)
 }
 
 // The latest outermost begin after a begin: this event, where no transaction was open.
@@ -137,9 +130,9 @@ pub fn named_from(store: u16, fenced: u16, opened: u16, closed: u16, written: u1
 pub fn in_tables(a: Range) -> Range
     ensures { result ≡ in_tables a }
 {
-    let address = lower(a.address, 4096);
+    let address = a.address.min(4096);
     Range {
         address,
-        length: lower(a.length, 4096 - address),
+        length: a.length.min(4096 - address),
     }
 }

@@ -16,10 +16,8 @@ fn fill(xs: &mut [u16], at: usize, n: usize, x: u16)
     requires { at + n ≤ length xs.old }
     ensures { xs.new ≡ filled x at n xs.old }
 {
-    let mut i = 0;
-    while i < n {
+    for i in 0..n {
         xs[at + i] = x;
-        i += 1;
     }
 }
 
@@ -64,11 +62,9 @@ fn close_line(fenced: &mut [u16; 4096], stored: &[u16; 4096], at: usize, back: u
     requires { at + 64 ≤ 4096 }
     ensures { fenced.new ≡ changed (λ b old. fence_now back number (entry stored.now b) old) at 64 fenced.old }
 {
-    let mut i = 0;
-    while i < 64 {
+    for i in 0..64 {
         let b = at + i;
         fenced[b] = fence_now(back, number, stored[b], fenced[b]);
-        i += 1;
     }
 }
 
@@ -87,14 +83,12 @@ fn close_some(
         changed (fenced_by fence number stored.now backed.now) (window_bytes from) (window_bytes (to - from))
         fenced.old }
 {
-    let mut i = from;
-    while i < to {
-        let back = backed[i];
+    for l in from..to {
+        let back = backed[l];
         if fence < back {
-            let at = window::line_start(i as u16) as usize;
+            let at = window::line_start(l as u16) as usize;
             close_line(fenced, stored, at, back, number);
         }
-        i += 1;
     }
 }
 
@@ -112,12 +106,12 @@ pub fn close_lines(
 {
     let fence = counts.fence;
     let end = tables::lines_of(counts) as usize;
-    let mut i = 0;
-    while i + 8 <= end {
-        if searches::any_of_eight(Test::Since(fence), backed, backed, i) {
-            close_some(fenced, stored, backed, i, i + 8, fence, number);
+    let mut l = 0;
+    while l + 8 <= end {
+        if searches::any_of_eight(Test::Since(fence), backed, backed, l) {
+            close_some(fenced, stored, backed, l, l + 8, fence, number);
         }
-        i += 8;
+        l += 8;
     }
-    close_some(fenced, stored, backed, i, end, fence, number);
+    close_some(fenced, stored, backed, l, end, fence, number);
 }

@@ -4,4 +4,4 @@ use Rattle.searches.specs.Tests.{found_by}
 use Rattle.findings.proofs.lost_at.Goals as goal
 
 pub bounds-stored-i : goal.bounds-stored-i
-bounds-stored-i c = c.requires _ (ap found_by c.in-At.is)
+bounds-stored-i c = c.requires _ (ap found_by c.in-Some.is)

@@ -11,13 +11,13 @@ use Rattle.searches.proofs.Searched.{found_none, found_some, lowest_below}
 use Rattle.findings.proofs.of_back.Goals as goal
 
 pub bounds-dirtied-i : goal.bounds-dirtied-i
-bounds-dirtied-i c = omega (arith, lowest_below _ _ _ (found_some _ refl c.in-At.ensures), in_tables_lines c.args.a)
+bounds-dirtied-i c = omega (arith, lowest_below _ _ _ (found_some _ refl c.in-Some.ensures), in_tables_lines c.args.a)
 
-pub returns-in-Nothing : goal.returns-in-Nothing
-returns-in-Nothing c = let k = c.args in rw (back_found (run_of (no_counts 0) [] [] [] [] [] [] k.dirtied.now k.backed.now) (in_tables k.a), found_none _ refl c.in-Nothing.ensures)
+pub returns-in-None : goal.returns-in-None
+returns-in-None c = let k = c.args in rw (back_found (run_of (no_counts 0) [] [] [] [] [] [] k.dirtied.now k.backed.now) (in_tables k.a), found_none _ refl c.in-None.ensures)
 
 pub returns-then-dirtied-i-eq0 : goal.returns-then-dirtied-i-eq0
-returns-then-dirtied-i-eq0 c = let k = c.args in rw (back_found (run_of (no_counts 0) [] [] [] [] [] [] k.dirtied.now k.backed.now) (in_tables k.a), found_some _ refl c.in-At.ensures, c.line_start-lost.ensures, eq-eqb _ 0 c.if-dirtied-i-eq0.true)
+returns-then-dirtied-i-eq0 c = let k = c.args in rw (back_found (run_of (no_counts 0) [] [] [] [] [] [] k.dirtied.now k.backed.now) (in_tables k.a), found_some _ refl c.in-Some.ensures, c.line_start-lost.ensures, eq-eqb _ 0 c.if-dirtied-i-eq0.true)
 
 pub returns-else-dirtied-i-eq0 : goal.returns-else-dirtied-i-eq0
-returns-else-dirtied-i-eq0 c = let k = c.args in rw (back_found (run_of (no_counts 0) [] [] [] [] [] [] k.dirtied.now k.backed.now) (in_tables k.a), found_some _ refl c.in-At.ensures, c.line_start-lost.ensures, ne_eqb _ 0 c.if-dirtied-i-eq0.false)
+returns-else-dirtied-i-eq0 c = let k = c.args in rw (back_found (run_of (no_counts 0) [] [] [] [] [] [] k.dirtied.now k.backed.now) (in_tables k.a), found_some _ refl c.in-Some.ensures, c.line_start-lost.ensures, ne_eqb _ 0 c.if-dirtied-i-eq0.false)

@@ -4,10 +4,10 @@ use Rattle.history.specs.Found.{finding_by}
 use Rattle.searches.proofs.Searched.{found_none, found_some}
 use Rattle.findings.proofs.of_log.Goals as goal
 
-pub returns-in-Nothing : goal.returns-in-Nothing
+pub returns-in-None : goal.returns-in-None
 unfolding finding_by
-returns-in-Nothing c = rw (found_none _ refl c.in-Nothing.ensures)
+returns-in-None c = rw (found_none _ refl c.in-None.ensures)
 
-pub returns-in-At : goal.returns-in-At
+pub returns-in-Some : goal.returns-in-Some
 unfolding finding_by
-returns-in-At c = rw (found_some _ refl c.in-At.ensures)
+returns-in-Some c = rw (found_some _ refl c.in-Some.ensures)

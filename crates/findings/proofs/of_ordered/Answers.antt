@@ -9,13 +9,13 @@ use Rattle.pairs.proofs.Searched.{found_no_pair, found_pair, pair_below}
 use Rattle.findings.proofs.of_ordered.Goals as goal
 
 pub bounds-stored-k : goal.bounds-stored-k
-bounds-stored-k c = omega (arith, (pair_below _ _ _ _ (found_pair _ refl c.in-At.ensures)).0)
+bounds-stored-k c = omega (arith, (pair_below _ _ _ _ (found_pair _ refl c.in-Some.ensures)).0)
 
 pub bounds-stored-l : goal.bounds-stored-l
-bounds-stored-l c = omega (arith, (pair_below _ _ _ _ (found_pair _ refl c.in-At.ensures)).1)
+bounds-stored-l c = omega (arith, (pair_below _ _ _ _ (found_pair _ refl c.in-Some.ensures)).1)
 
-pub returns-in-Nothing : goal.returns-in-Nothing
-returns-in-Nothing c = let k = c.args in rw (ordered_found (run_of (no_counts 0) k.stored.now [] k.fenced.now [] [] [] [] []) (in_tables k.a) (in_tables k.b), found_no_pair _ refl c.in-Nothing.ensures)
+pub returns-in-None : goal.returns-in-None
+returns-in-None c = let k = c.args in rw (ordered_found (run_of (no_counts 0) k.stored.now [] k.fenced.now [] [] [] [] []) (in_tables k.a) (in_tables k.b), found_no_pair _ refl c.in-None.ensures)
 
-pub returns-in-At : goal.returns-in-At
-returns-in-At c = let k = c.args in rw (ordered_found (run_of (no_counts 0) k.stored.now [] k.fenced.now [] [] [] [] []) (in_tables k.a) (in_tables k.b), found_pair _ refl c.in-At.ensures)
+pub returns-in-Some : goal.returns-in-Some
+returns-in-Some c = let k = c.args in rw (ordered_found (run_of (no_counts 0) k.stored.now [] k.fenced.now [] [] [] [] []) (in_tables k.a) (in_tables k.b), found_pair _ refl c.in-Some.ensures)

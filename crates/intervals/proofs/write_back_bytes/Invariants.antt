@@ -2,13 +2,9 @@
 -- lacks need not be.
 -- Assumes nothing.
 use mathlib.Core.Path.{◌≡◌}
-use Prim.Native.Nat.{◌≤◌, ◌-◌}
 use Rattle.tables.specs.Table.{changed}
 use Rattle.intervals.specs.Now.{backed_now}
 use Rattle.intervals.proofs.write_back_bytes.Given as goal
 
 abbrev pub invariant-loop-i : goal.invariant-loop-i
-invariant-loop-i l = (l.i ≤ l.m) × (l.written ≡ changed (backed_now l.number l.stored) l.at l.i l.initial.written)
-
-abbrev pub decreases-loop-i : goal.decreases-loop-i
-decreases-loop-i l = l.m - l.i
+invariant-loop-i l = l.written ≡ changed (backed_now l.number l.stored) l.at l.i l.initial.written

@@ -2,7 +2,8 @@
 -- kept byte, also after the skip, and for the kept bytes; one that was never stored to has no partner.
 -- Assumes nothing.
 use mathlib.Core.Path.{◌≡◌}
-use Prim.Native.Nat.{◌≤◌, ◌-◌}
+use Prim.Native.Nat.{◌+◌, ◌≤◌}
+use Rattle.std.specs.Prelude.{None}
 use Rattle.event.specs.declared.Range.{Range}
 use Rattle.history.specs.Found.{lowest}
 use Rattle.searches.proofs.FromFront.{left}
@@ -11,13 +12,11 @@ use Rattle.pairs.proofs.FromFront.{left_pair}
 use Rattle.pairs.proofs.first_broken.Given as goal
 
 abbrev pub invariant-loop-lost : goal.invariant-loop-lost
-invariant-loop-lost l = (l.lost ≤ l.lost_end) × (l.found ≡ l.initial.found) × (left (broken_pair l.stored l.fenced l.kept) l.lost_end l.lost ≡ lowest (broken_pair l.stored l.fenced l.kept) l.at l.n)
-
-abbrev pub decreases-loop-lost : goal.decreases-loop-lost
-decreases-loop-lost l = l.lost_end - l.lost
+invariant-loop-lost l =
+    let p = broken_pair l.stored l.fenced l.kept in (l.found ≡ l.initial.found) × (left p (l.at + l.n) l.lost ≡ lowest p l.at l.n)
 
 abbrev pub invariant-kept : goal.invariant-kept
-invariant-kept l = let p = broken_pair l.stored l.fenced in let a : Range = record { address = l.at; length = l.n } in (l.initial.kept ≤ l.kept) × (l.kept ≤ l.kept_end) × (l.found ≡ l.initial.found) × (left_pair p a l.kept_end l.kept ≡ left_pair p a l.kept_end l.initial.kept)
-
-abbrev pub decreases-kept : goal.decreases-kept
-decreases-kept l = l.kept_end - l.kept
+invariant-kept l =
+    let p = broken_pair l.stored l.fenced in
+    let a : Range = record { address = l.at; length = l.n } in
+    (l.found ≡ None) × (left_pair p a (l.start + l.m) l.kept ≡ left_pair p a (l.start + l.m) l.start)

@@ -7,10 +7,10 @@ use Rattle.searches.proofs.Parts.{skip_inside, skip_same}
 use Rattle.searches.proofs.first.Goals as goal
 
 pub overflow_sub-at : goal.overflow_sub-at
-overflow_sub-at c = omega (arith, skip_inside _ _ _ c.skip-b.ensures)
+overflow_sub-at g c = omega (arith, skip_inside _ _ _ c.skip-b.ensures)
 
 pub scan-requires : goal.scan-requires
-scan-requires c = omega (arith, skip_inside _ _ _ c.skip-b.ensures)
+scan-requires g c = omega (arith, skip_inside _ _ _ c.skip-b.ensures)
 
 pub returns : goal.returns
-returns c = c.scan.ensures ∙ ap searched (skip_same _ _ _ c.skip-b.ensures)
+returns g c = c.scan.ensures ∙ ap searched (skip_same _ _ _ c.skip-b.ensures)

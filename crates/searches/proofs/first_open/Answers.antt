@@ -7,7 +7,7 @@ use Prim.Native.Nat.{ℕ, ◌+◌, ◌-◌, ◌*◌, ◌≤◌, ◌<◌}
 use native.Mathlib.Omega.{arith}
 use Rattle.window.specs.Window.{line_of}
 use Rattle.ranges.specs.Ranges.{range_end}
-use Rattle.searches.specs.declared.Search.{Search}
+use Rattle.std.specs.Prelude.{Option as Answer}
 use Rattle.searches.specs.Tests.{passing, searched, is_found}
 use Rattle.searches.specs.declared.Test.TheVariants.{Open}
 use Rattle.history.specs.Found.{lowest}
@@ -39,7 +39,7 @@ module _ (line bytes : ℕ → Bool) (at n byte stop : ℕ) (same : left (by_lin
         (at ≤ stop) × (stop ≤ at + n) × (left (by_line line bytes) (at + n) stop ≡ left (by_line line bytes) (at + n) at)
     none_there e = goes_on (sym looked ∙ not_found _ e)
 
-    found_there : {s : Search} → is_found (lowest bytes byte (stop - byte)) ≡ true → s ≡ searched (lowest bytes byte (stop - byte)) →
+    found_there : {s : Answer ℕ} → is_found (lowest bytes byte (stop - byte)) ≡ true → s ≡ searched (lowest bytes byte (stop - byte)) →
         s ≡ searched (lowest (by_line line bytes) at n)
     found_there e found = part_found (by_line line bytes) at n byte same (stop - byte) (omega arith) (rw looked at e) (rw looked at found)
 
@@ -50,8 +50,8 @@ returns-then-any c =
     let fits = ap range_end c.in_tables-part.ensures in
     rw c.in_tables-part.ensures at
     (found_there (open_line a.fence a.dirtied.now a.backed.now) (passing Open a.stored.now a.fenced.now) _ _ c.loop-b.b c.line_stop-stop.result c.loop-b.invariant.2
-    (omega arith) (omega (arith, s, fits)) (omega (arith, s)) (omega (arith, s)) (sym c.line_open.ensures ∙ c.if-line_open.true)
-    (sym c.any.ensures ∙ c.if-any.true) c.first.ensures)
+    (omega arith) (omega (arith, s, fits)) (omega (arith, s)) (omega (arith, s)) (sym c.if-line_open.ensures)
+    (sym c.if-any.ensures) c.first.ensures)
 
 pub loop-b-preserved-else-any : goal.loop-b-preserved-else-any
 loop-b-preserved-else-any c =
@@ -59,8 +59,7 @@ loop-b-preserved-else-any c =
     let s = c.line_stop-stop.ensures in
     let fits = ap range_end c.in_tables-part.ensures in
     none_there (open_line a.fence a.dirtied.now a.backed.now) (passing Open a.stored.now a.fenced.now) _ _ c.loop-b.b c.line_stop-stop.result c.loop-b.invariant.2
-    (omega arith) (omega (arith, s, fits)) (omega (arith, s)) (omega (arith, s)) (sym c.line_open.ensures ∙ c.if-line_open.true)
-    (sym c.any.ensures ∙ c.if-any.false)
+    (omega arith) (omega (arith, s, fits)) (omega (arith, s)) (omega (arith, s)) (sym c.if-line_open.ensures) (sym c.if-any.ensures)
 
 pub loop-b-preserved : goal.loop-b-preserved
 loop-b-preserved c =
@@ -68,7 +67,7 @@ loop-b-preserved c =
     let s = c.line_stop-stop.ensures in
     let fits = ap range_end c.in_tables-part.ensures in
     passed (open_line a.fence a.dirtied.now a.backed.now) (passing Open a.stored.now a.fenced.now) _ _ c.loop-b.b c.line_stop-stop.result c.loop-b.invariant.2
-    (omega arith) (omega (arith, s, fits)) (omega (arith, s)) (omega (arith, s)) (sym c.line_open.ensures ∙ c.if-line_open.false)
+    (omega arith) (omega (arith, s, fits)) (omega (arith, s)) (omega (arith, s)) (sym c.if-line_open.ensures)
 
 pub returns : goal.returns
 returns c = rw c.in_tables-part.ensures at (found_nothing _ _ _ c.loop-b.b c.loop-b.invariant.2 (omega arith))

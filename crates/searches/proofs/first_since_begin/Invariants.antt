@@ -1,7 +1,7 @@
 -- `searches::first_since_begin` meets its contract: the search over the lines that are left is the whole search.
 -- Assumes nothing.
 use mathlib.Core.Path.{◌≡◌}
-use Prim.Native.Nat.{◌+◌, ◌-◌, ◌*◌, ◌≤◌}
+use Prim.Native.Nat.{◌+◌, ◌*◌}
 use Rattle.window.specs.Window.{window_bytes}
 use Rattle.searches.specs.Tests.{lost_at_end}
 use Rattle.searches.proofs.FromFront.{left}
@@ -9,7 +9,4 @@ use Rattle.searches.proofs.first_since_begin.Given as goal
 
 abbrev pub invariant-loop-l : goal.invariant-loop-l
 invariant-loop-l l =
-    let p = lost_at_end l.begin l.fence l.stored l.fenced l.dirtied l.backed in (l.l ≤ l.lines) × (left p (0 + window_bytes l.lines) (l.l * 64) ≡ left p (0 + window_bytes l.lines) 0)
-
-abbrev pub decreases-loop-l : goal.decreases-loop-l
-decreases-loop-l l = l.lines - l.l
+    let p = lost_at_end l.begin l.fence l.stored l.fenced l.dirtied l.backed in left p (0 + window_bytes l.lines) (l.l * 64) ≡ left p (0 + window_bytes l.lines) 0

@@ -1,15 +1,15 @@
 -- `searches::skip` meets its contract: what is left to skip leads to the same place as the whole.
 -- Assumes nothing.
+use mathlib.Core.Path.{sym}
 use native.Mathlib.Omega.{arith}
-use Rattle.event.proofs.Laws.{equal_by}
 use Rattle.searches.proofs.Parts.{skip_here, skip_next, skip_end}
 use Rattle.searches.proofs.skip.Goals as goal
 
 pub returns-then-any : goal.returns-then-any
-returns-then-any c = let k = c in skip_here _ _ _ _ k.loop-b.invariant.2 (omega arith) (equal_by c.any.ensures c.if-any.true)
+returns-then-any g c = skip_here _ _ _ _ c.loop-b.invariant.2 (omega arith) (sym c.if-any.ensures)
 
 pub loop-b-preserved : goal.loop-b-preserved
-loop-b-preserved c = let k = c in (omega arith, omega arith, skip_next _ _ _ _ k.loop-b.invariant.2 (omega arith) (equal_by c.any.ensures c.if-any.false))
+loop-b-preserved g c = (omega arith, omega arith, skip_next _ _ _ _ c.loop-b.invariant.2 (omega arith) (sym c.if-any.ensures))
 
 pub returns : goal.returns
-returns c = skip_end _ _ _ _ c.loop-b.invariant.2 (omega arith)
+returns g c = skip_end _ _ _ _ c.loop-b.invariant.2 (omega arith)

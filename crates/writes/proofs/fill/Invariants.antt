@@ -1,12 +1,8 @@
 -- `writes::fill` meets its contract: after i turns the first i entries are filled.
 -- Assumes nothing.
 use mathlib.Core.Path.{◌≡◌}
-use Prim.Native.Nat.{◌≤◌, ◌-◌}
 use Rattle.tables.specs.Table.{filled}
 use Rattle.writes.proofs.fill.Given as goal
 
 abbrev pub invariant-loop-i : goal.invariant-loop-i
-invariant-loop-i l = (l.i ≤ l.n) × (l.xs ≡ filled l.x l.at l.i l.initial.xs)
-
-abbrev pub decreases-loop-i : goal.decreases-loop-i
-decreases-loop-i l = l.n - l.i
+invariant-loop-i l = l.xs ≡ filled l.x l.at l.i l.initial.xs
