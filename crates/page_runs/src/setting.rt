@@ -1,5 +1,5 @@
 // The calls that change the findings area, which is the first bytes of a space. Nothing is printed for them.
-ghost use Rattle.std.specs.Prelude.{◌≡◌, ◌+◌, ◌-◌, ◌*◌, ◌/◌, ◌%◌, ◌≤◌, min, length};
+ghost use Rattle.std.specs.Prelude.{◌≡◌, ◌+◌, ◌-◌, ◌*◌, ◌/◌, ◌%◌, ◌≤◌, min, length, take};
 ghost use Rattle.codec.specs.Codec.{u16_at};
 ghost use Rattle.page_runs.specs.Setting.{finding_plus, findings_put, zeroed, byte_set, used_after, space_after};
 
@@ -7,7 +7,7 @@ ghost use Rattle.page_runs.specs.Setting.{finding_plus, findings_put, zeroed, by
 fn added(bytes: &[u8], at: usize, more: u16) -> u16
     ensures { result ≡ (u16_at bytes.now at + more) % 65536 }
 {
-    std::num::wrapping_add_u16(codec::u16_at(bytes, at), more)
+    codec::u16_at(bytes, at).wrapping_add(more)
 }
 
 // The finding in a call, with a number added to each of its five fields.
@@ -43,8 +43,7 @@ fn fitting(space: &[u8], at: usize, count: u32) -> usize
         return 0;
     }
     let room = (space.len() - at) / 12;
-    let n = count as usize;
-    if n < room { n } else { room }
+    (count as usize).min(room)
 }
 
 // Puts so many findings from a place on.
@@ -54,12 +53,10 @@ fn put_findings(space: &mut [u8], at: usize, bytes: &[u8], count: usize)
 {
     let step = codec::u16_at(bytes, 2);
     let mut more: u16 = 0;
-    let mut i: usize = 0;
-    while i < count {
+    for i in 0..count {
         let one = finding(bytes, more);
         codec::put(space, at + 12 * i, &one);
-        more = std::num::wrapping_add_u16(more, step);
-        i += 1;
+        more = more.wrapping_add(step);
     }
 }
 
@@ -82,28 +79,46 @@ fn set_byte(space: &mut [u8], used: usize, at: usize, b: u8)
     }
 }
 
-// The call, and how many bytes the area has after it: 1 puts findings behind the area, 2 makes it shorter or longer, 3 sets a byte. Any
-// other changes nothing.
-pub fn call(space: &mut [u8], used: usize, bytes: &[u8]) -> usize
-    ensures value { result ≡ used_after space.old used bytes.now }
-    ensures space_after { space.new ≡ space_after space.old used bytes.now }
-{
-    let number = codec::u32_at(bytes, 4);
-    match codec::byte_at(bytes, 0) {
-        1 => {
-            let count = fitting(space, used, number);
-            put_findings(space, used, bytes, count);
-            used + 12 * count
+// The findings area: the first bytes of a space.
+#[derive(Drop)]
+pub struct Findings<const N: usize> {
+    pub space: [u8; N],
+    pub used: usize,
+    ghost within: { used ≤ N },
+}
+
+impl<const N: usize> Findings<N> {
+    // The area's bytes.
+    pub fn as_slice(&self) -> &[u8]
+        ensures { result.now ≡ take self.now.used self.now.space }
+    {
+        &self.space[..self.used]
+    }
+
+    // The call: 1 puts findings behind the area, 2 makes it shorter or longer, 3 sets a byte. Any other changes nothing.
+    pub fn call(&mut self, bytes: &[u8])
+        ensures used_after { self.new.used ≡ used_after self.old.space self.old.used bytes.now }
+        ensures space_after { self.new.space ≡ space_after self.old.space self.old.used bytes.now }
+    {
+        let number = codec::u32_at(bytes, 4);
+        match codec::byte_at(bytes, 0) {
+            1 => {
+                let count = fitting(&self.space, self.used, number);
+                put_findings(&mut self.space, self.used, bytes, count);
+                self.used += 12 * count;
+            }
+            2 => {
+                let size = crate::size_in(bytes, &self.space);
+                zero(&mut self.space, self.used, size);
+                self.used = size;
+            }
+            3 => set_byte(
+                &mut self.space,
+                self.used,
+                number as usize,
+                codec::byte_at(bytes, 1),
+            ),
+            _ => {}
         }
-        2 => {
-            let size = crate::size_in(bytes, space);
-            zero(space, used, size);
-            size
-        }
-        3 => {
-            set_byte(space, used, number as usize, codec::byte_at(bytes, 1));
-            used
-        }
-        _ => used,
     }
 }

@@ -88,9 +88,9 @@ impl<R: Read, W: Write, E: Write> Console<'_, R, W, E> {
 
     // A program: reads its input into the buffer, has the report of it put at the start of the text, and writes so much of the text as the
     // report answers, or all of it where it has less. Where a read fails it writes nothing.
-    pub fn run<T: AsSlice<u8>, F: FnOnce(&[u8], &mut T) -> usize>(
+    pub fn run<const N: usize, T: AsSlice<u8>, F: FnOnce(&[u8], &mut T) -> usize>(
         &mut self,
-        buf: &mut [u8],
+        buf: &mut [u8; N],
         text: &mut T,
         report: F,
     ) -> Result<usize, ReadFailed>

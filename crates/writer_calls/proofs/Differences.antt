@@ -1,5 +1,5 @@
 -- The bytes that differ between two slices, looked for place by place, and a sum of bytes, one byte more at a time.
-use Rattle.std.proofs.Common.{◌≡◌, ℕ, suc, ◌+◌, ◌-◌, ◌*◌, ◌%◌, ◌<◌, ◌≤◌, ◌≢◌, List, length, get_or, drop, sym, ap, ◌∙◌, add-one, arith, drop_of_length-le, drop-cons, eq-eqb, ne_eqb}
+use Rattle.std.proofs.Common.{◌≡◌, ℕ, suc, ◌+◌, ◌-◌, ◌*◌, ◌%◌, ◌<◌, ◌≤◌, ◌≢◌, List, [], ◌∷◌, ◌++◌, length, get_or, drop, sym, ap, ◌∙◌, add-one, arith, drop_of_length-le, drop-cons, eq-eqb, ne_eqb}
 use Rattle.writer_calls.specs.Changes.{first_change, last_change, sum_of}
 
 -- from the front
@@ -34,10 +34,13 @@ module _ (before after : List ℕ) (i : ℕ) (some : 0 < i) where
   last_differs e =
       ap (λ (n : ℕ). last_change n before after) more ∙ (rw (ne_eqb (get_or before (i - 1) 0) (get_or after (i - 1) 0) e)) ∙ sym more
 
--- one byte more
-pub sum_more : (s : List ℕ) (x i : ℕ) → i < length s → sum_of x (drop i s) ≡ sum_of ((31 * x + get_or s i 0) % 65536) (drop (i + 1) s)
-sum_more s x i k = rw (drop-cons s i 0, add-one)
+-- a sum, and one byte more behind the others
+pub sum_push : (s : List ℕ) (x b : ℕ) → sum_of x (s ++ b ∷ []) ≡ (31 * sum_of x s + b) % 65536
+sum_push [] x b = λ i. (31 * x + b) % 65536
+sum_push (a ∷ s) x b = sum_push s ((31 * x + a) % 65536) b
 
--- no byte more
-pub sum_all : (s : List ℕ) (x i : ℕ) → length s ≤ i → sum_of x (drop i s) ≡ x
-sum_all s x i k = rw (drop_of_length-le s {i = i} k)
+-- the same where the product wraps before the byte is added
+pub sum_next : (s : List ℕ) (b : ℕ) {x : ℕ} → x ≡ sum_of 0 s → (x * 31 % 65536 + b) % 65536 ≡ sum_of 0 (s ++ b ∷ [])
+sum_next s b {x} e =
+    let same : (x * 31 % 65536 + b) % 65536 ≡ (31 * x + b) % 65536 = omega arith in
+    same ∙ ap (λ n. (31 * n + b) % 65536) e ∙ sym (sum_push s 0 b)

@@ -7,11 +7,9 @@ pub fn fill(s: &mut [u8], from: u8, step: u8)
     ensures { s.new ≡ pattern from step (length s.old) }
 {
     let mut x = from;
-    let mut i = 0;
-    while i < s.len() {
-        s[i] = x;
-        x = std::num::wrapping_add_u8(x, step);
-        i += 1;
+    for b in s {
+        *b = x;
+        x = x.wrapping_add(step);
     }
 }
 
@@ -19,8 +17,7 @@ pub fn fill(s: &mut [u8], from: u8, step: u8)
 fn size_in(bytes: &[u8], s: &[u8]) -> usize
     ensures { result ≡ min (size_in bytes.now) (length s.now) }
 {
-    let size = codec::u32_at(bytes, 2) as usize;
-    if size < s.len() { size } else { s.len() }
+    (codec::u32_at(bytes, 2) as usize).min(s.len())
 }
 
 // A fresh area (32), and its length; any other call leaves it as it was.
@@ -41,16 +38,17 @@ pub fn preamble(space: &mut [u8], free: usize, area: &[u8], bytes: &[u8]) -> usi
     ensures value { result ≡ free_after space.old area.now free bytes.now }
     ensures space_after { space.new ≡ preamble_after space.old area.now bytes.now }
 {
-    let kind = codec::byte_at(bytes, 0);
-    if kind == 33 {
-        let size = size_in(bytes, space);
-        fill(&mut space[..size], codec::byte_at(bytes, 6), 7);
-        return size;
+    match codec::byte_at(bytes, 0) {
+        33 => {
+            let size = size_in(bytes, space);
+            fill(&mut space[..size], codec::byte_at(bytes, 6), 7);
+            size
+        }
+        34 => {
+            let size = size_in(bytes, area);
+            codec::put(space, 0, &area[..size]);
+            size
+        }
+        _ => free,
     }
-    if kind == 34 {
-        let size = size_in(bytes, area);
-        codec::put(space, 0, &area[..size]);
-        return size;
-    }
-    free
 }

@@ -23,7 +23,7 @@ fn writer_of(bytes: &[u8]) -> Writer
 
 // A start with so many lines, and its answer; the line goes on.
 fn print_start<W: Write>(out: &mut W, lines: u16, s: Started) {
-    call_lines::field(out, b"start ", lines);
+    let _ = write!(out, "start {lines}");
     call_lines::reply(out, replies::of_started(s));
 }
 
@@ -62,7 +62,7 @@ fn finish<W: Write>(out: &mut W, area: &mut [u8], w: Writer)
     ensures { area.new ≡ area_closed area.old w }
 {
     let c = writer::close(area, w);
-    call_lines::words(out, b"finish");
+    let _ = write!(out, "finish");
     call_lines::reply(out, replies::of_closed(c));
 }
 
