@@ -90,9 +90,10 @@ fn give_fences(run: Run, count: u16) -> Run
 pub fn call<W: Write>(out: &mut W, run: Run, bytes: &[u8]) -> Run
     ensures { result ≡ after_call run bytes.now }
 {
-    let kind = codec::byte_at(bytes, 0);
     let number = codec::u16_at(bytes, 2);
-    match kind {
+    // stays: the kind is a byte of the file, read in this one match, and `after_call` speaks of that byte: an enum would need a match more,
+    // which makes it.
+    match codec::byte_at(bytes, 0) {
         16 => fresh(out, number),
         17 => {
             ask(out, run, number);

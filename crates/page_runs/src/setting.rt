@@ -14,24 +14,24 @@ fn added(bytes: &[u8], at: usize, more: u16) -> u16
 fn finding(bytes: &[u8], more: u16) -> [u8; 12]
     ensures { result ≡ finding_plus bytes.now more }
 {
-    let lost = added(bytes, 14, more);
-    let kept = added(bytes, 16, more);
-    let moment = added(bytes, 18, more);
-    let store = added(bytes, 20, more);
-    let site = added(bytes, 22, more);
+    let lost = added(bytes, 14, more).to_le_bytes();
+    let kept = added(bytes, 16, more).to_le_bytes();
+    let moment = added(bytes, 18, more).to_le_bytes();
+    let store = added(bytes, 20, more).to_le_bytes();
+    let site = added(bytes, 22, more).to_le_bytes();
     [
         codec::byte_at(bytes, 12),
         codec::byte_at(bytes, 13),
-        (lost % 256) as u8,
-        (lost / 256) as u8,
-        (kept % 256) as u8,
-        (kept / 256) as u8,
-        (moment % 256) as u8,
-        (moment / 256) as u8,
-        (store % 256) as u8,
-        (store / 256) as u8,
-        (site % 256) as u8,
-        (site / 256) as u8,
+        lost[0],
+        lost[1],
+        kept[0],
+        kept[1],
+        moment[0],
+        moment[1],
+        store[0],
+        store[1],
+        site[0],
+        site[1],
     ]
 }
 

@@ -18,6 +18,7 @@ pub struct ReadFailed {
 fn read_all<R: Read>(from: &mut R, buf: &mut [u8]) -> Result<usize, ReadFailed>
     ensures { MatchResult result (λ len. len ≤ length buf.new) (λ e. e.len ≤ length buf.new) }
 {
+    // stays: std's `read_exact` loses how many bytes came before the end, and its `read_to_end` needs a heap.
     let mut done = 0;
     while done < buf.len() {
         match from.read(&mut buf[done..]) {

@@ -5,7 +5,7 @@ ghost use Rattle.writer_calls.specs.Changes.{first_change, last_change, sum_of};
 use std::io::Write;
 
 // The place of the first byte of `after` that differs from that of `before`; its length where none does.
-#[tactic(auto, using(crate::proofs::Differences::first_same, crate::proofs::Differences::first_differs, crate::proofs::Differences::first_none))]
+#[tactic(auto, using(crate::proofs::Differences::first_same))]
 fn first_change(before: &[u8], after: &[u8]) -> usize
     ensures { result ≡ first_change (length after.now) 0 before.now after.now }
 {

@@ -1,4 +1,7 @@
 // The calls that set a writer's area and its preamble. Nothing is printed for them.
+//
+// stays: `room` and `free` beside their spaces, since the clauses `value` of `area` and `preamble` hold for every number, also one that is
+// longer than the space: a struct with an invariant would take fewer.
 ghost use Rattle.std.specs.Prelude.{◌≡◌, min, length};
 ghost use Rattle.writer_calls.specs.Writing.{pattern, size_in, room_after, space_after, free_after, preamble_after};
 

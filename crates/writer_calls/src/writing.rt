@@ -88,6 +88,8 @@ fn call<W: Write>(out: &mut W, area: &mut [u8], preamble: &[u8], w: Writer, byte
     ensures value { result ≡ writer_after_call area.old preamble.now w bytes.now }
     ensures area_after { area.new ≡ area_after_call area.old preamble.now w bytes.now }
 {
+    // stays: the kind is a byte of the file, and `writer_after_call` and `is_answered` speak of that byte: an enum would need a match more,
+    // which makes it.
     match codec::byte_at(bytes, 0) {
         35 => start(out, area, preamble, w, codec::u16_at(bytes, 2)),
         36 => {

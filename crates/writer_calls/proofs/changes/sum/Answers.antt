@@ -1,9 +1,9 @@
 -- Each step of the fold adds a byte behind those before it.
-use Rattle.std.proofs.Common.{◌≡◌, ℕ, ◌+◌, ◌*◌, ◌%◌, ◌∙◌, Bor, refl, rules}
+use Rattle.std.proofs.Common.{◌≡◌, ◌+◌, ◌*◌, ◌%◌, ◌∙◌, refl, rules}
 use Rattle.std.proofs.lemmas.Fn.{fold_over, fronts}
 use Rattle.std.proofs.lemmas.Iterator.{YieldsList-from_slice}
 use Rattle.writer_calls.specs.Changes.{sum_of}
-use Rattle.writer_calls.proofs.Differences.{sum_next}
+use Rattle.writer_calls.proofs.Sums.{sum_next}
 use Rattle.writer_calls.proofs.changes.sum.Goals as goal
 
 pub returns : goal.returns
