@@ -2,11 +2,9 @@
 // page area. Prints a line for each layout, and for some of them the pages. A call has 24 bytes.
 #![tactic(auto)]
 
-ghost use Rattle.std.specs.Prelude.{◌≡◌, min, length};
-ghost use Rattle.page_runs.specs.Setting.{number_in};
-
 use setting::Findings;
 use std::io::{Read, Write};
+use writer_calls::setting::size_at;
 
 mod laying; // the calls that lay out the findings, printed
 mod setting; // the calls that change the findings area
@@ -16,13 +14,6 @@ const SPACE: usize = 786444;
 
 // The page area has a line more than the longest pages.
 const PAGES: usize = 4203352;
-
-// The number in a call, and at most the length of a slice.
-fn size_in(bytes: &[u8], s: &[u8]) -> usize
-    ensures { result ≡ min (number_in bytes.now) (length s.now) }
-{
-    (codec::u32_at(bytes, 4) as usize).min(s.len())
-}
 
 // Makes the calls, at most a million. The page area is the first bytes of its space.
 fn make_calls<R: Read, W: Write>(
@@ -37,7 +28,7 @@ fn make_calls<R: Read, W: Write>(
             return;
         }
         findings.call(&bytes);
-        let size = size_in(&bytes, pages);
+        let size = size_at(&bytes, 4, pages);
         laying::call(out, findings.as_slice(), &mut pages[..size], bytes[0]);
     }
 }

@@ -3,6 +3,8 @@ ghost use Rattle.std.specs.Prelude.{◌≡◌, ◌+◌, ◌-◌, ◌*◌, ◌/�
 ghost use Rattle.codec.specs.Codec.{u16_at};
 ghost use Rattle.page_runs.specs.Setting.{finding_plus, findings_put, zeroed, byte_set, used_after, space_after};
 
+use writer_calls::setting::{fill, size_at};
+
 // The u16 at a place of a call, with a number added in 16 bits.
 fn added(bytes: &[u8], at: usize, more: u16) -> u16
     ensures { result ≡ (u16_at bytes.now at + more) % 65536 }
@@ -66,7 +68,7 @@ fn zero(space: &mut [u8], used: usize, size: usize)
     ensures { space.new ≡ zeroed used size space.old }
 {
     if used < size {
-        writer_calls::setting::fill(&mut space[used..], 0, 0);
+        fill(&mut space[used..], 0, 0);
     }
 }
 
@@ -108,7 +110,7 @@ impl<const N: usize> Findings<N> {
                 self.used += 12 * count;
             }
             2 => {
-                let size = crate::size_in(bytes, &self.space);
+                let size = size_at(bytes, 4, &self.space);
                 zero(&mut self.space, self.used, size);
                 self.used = size;
             }
