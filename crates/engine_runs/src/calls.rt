@@ -10,7 +10,7 @@ use tables::Run;
 
 // A fresh window of so many lines, and what the check says.
 fn print_fresh<W: Write>(out: &mut W, lines: u16, c: Result<(), Refusal>) {
-    call_lines::field(out, b"fresh ", lines);
+    let _ = write!(out, "fresh {lines}");
     call_lines::answered(out, replies::of_check(c));
 }
 
@@ -51,21 +51,21 @@ fn give<W: Write>(out: &mut W, run: Run, bytes: &[u8]) -> Run
 // A byte asked.
 fn ask<W: Write>(out: &mut W, run: Run, byte: u16) {
     let a = engine::ask(run, byte);
-    call_lines::field(out, b"ask ", byte);
+    let _ = write!(out, "ask {byte}");
     call_lines::answered(out, replies::of_asked(a));
 }
 
 // The run closed.
 fn close<W: Write>(out: &mut W, run: Run) {
     let c = engine::close(run);
-    call_lines::words(out, b"close");
+    let _ = write!(out, "close");
     call_lines::answered(out, replies::of_closing(c));
 }
 
 // The run asked for its mean exposure.
 fn expose<W: Write>(out: &mut W, run: Run) {
     let e = exposure::exposure(run);
-    call_lines::words(out, b"exposure");
+    let _ = write!(out, "exposure");
     call_lines::answered(out, replies::of_exposed(e));
 }
 
@@ -78,11 +78,9 @@ fn give_fences(run: Run, count: u16) -> Run
         site: 0,
     };
     let mut next = run;
-    let mut i: u16 = 0;
-    while i < count {
+    for _ in 0..count {
         let g = engine::give(next, fence);
         next = g.run;
-        i += 1;
     }
     next
 }
@@ -92,9 +90,10 @@ fn give_fences(run: Run, count: u16) -> Run
 pub fn call<W: Write>(out: &mut W, run: Run, bytes: &[u8]) -> Run
     ensures { result ≡ after_call run bytes.now }
 {
-    let kind = codec::byte_at(bytes, 0);
     let number = codec::u16_at(bytes, 2);
-    match kind {
+    // stays: the kind is a byte of the file, read in this one match, and `after_call` speaks of that byte: an enum would need a match more,
+    // which makes it.
+    match codec::byte_at(bytes, 0) {
         16 => fresh(out, number),
         17 => {
             ask(out, run, number);

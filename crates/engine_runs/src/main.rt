@@ -20,8 +20,9 @@ fn make_calls<R: Read, W: Write>(
 )
     requires { length area.old ≡ length preamble.old }
 {
-    let w = engine::fresh(1);
-    let mut run = w.run;
+    let mut run = engine::fresh(1).run;
+    // stays: a struct of a space and its length is no plainer: it needs three methods that only hand both on, since `setting` and `writing`
+    // take them apart, and two fields of a struct with an invariant can't be lent at once.
     let mut room: usize = 0;
     let mut free: usize = 0;
     let mut writer = Writer {
@@ -31,10 +32,8 @@ fn make_calls<R: Read, W: Write>(
         depth: 0,
     };
     let mut bytes = [0u8; 12];
-    let mut left: u32 = 1000000;
-    while 0 < left {
-        left -= 1;
-        if stdio::read_full(input, &mut bytes) < 12 {
+    for _ in 0..1_000_000 {
+        if input.read_exact(&mut bytes).is_err() {
             return;
         }
         if bytes[0] < 32 {

@@ -1,3 +1,2 @@
 -- Laws of the calls.
-pub mod Findings  -- the findings area after a call
-pub mod PageArea  -- the page area after a call
+pub mod Findings  -- findings put, one more at a time

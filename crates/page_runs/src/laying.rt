@@ -17,11 +17,9 @@ fn lay_out(findings: &[u8], area: &mut [u8]) -> Result<u32, PageRefusal>
 
 // The line: the lengths of both areas, the answer, and the sum of the page area's bytes.
 fn print_line<W: Write>(out: &mut W, findings: &[u8], area: &[u8], p: Result<u32, PageRefusal>) {
-    call_lines::place(out, b"pages of ", findings.len());
-    call_lines::place(out, b" bytes in ", area.len());
+    let _ = write!(out, "pages of {} bytes in {}", findings.len(), area.len());
     call_lines::reply(out, replies::of_paged(p));
-    call_lines::field(out, b" sum ", writer_calls::changes::sum(area));
-    call_lines::words(out, b"\n");
+    let _ = writeln!(out, " sum {}", writer_calls::changes::sum(area));
 }
 
 // How many bytes of the page area were written.
@@ -58,6 +56,6 @@ pub fn call<W: Write>(out: &mut W, findings: &[u8], area: &mut [u8], kind: u8)
     print_line(out, findings, area, p);
     if kind == 5 {
         let n = written(area, p);
-        call_lines::words(out, &area[..n]);
+        let _ = out.write_all(&area[..n]);
     }
 }

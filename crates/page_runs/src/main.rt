@@ -2,10 +2,9 @@
 // page area. Prints a line for each layout, and for some of them the pages. A call has 24 bytes.
 #![tactic(auto)]
 
-ghost use Rattle.std.specs.Prelude.{◌≡◌, min, length};
-ghost use Rattle.page_runs.specs.Setting.{number_in};
-
+use setting::Findings;
 use std::io::{Read, Write};
+use writer_calls::setting::size_at;
 
 mod laying; // the calls that lay out the findings, printed
 mod setting; // the calls that change the findings area
@@ -16,42 +15,29 @@ const SPACE: usize = 786444;
 // The page area has a line more than the longest pages.
 const PAGES: usize = 4203352;
 
-// The number in a call, and at most the length of a slice.
-fn size_in(bytes: &[u8], s: &[u8]) -> usize
-    ensures { result ≡ min (number_in bytes.now) (length s.now) }
-{
-    let size = codec::u32_at(bytes, 4) as usize;
-    if size < s.len() { size } else { s.len() }
-}
-
-// Makes the calls, at most a million. The findings area and the page area are the first bytes of their spaces.
-fn make_calls<R: Read, W: Write>(input: &mut R, out: &mut W, space: &mut [u8], pages: &mut [u8]) {
-    let mut used: usize = 0;
+// Makes the calls, at most a million. The page area is the first bytes of its space.
+fn make_calls<R: Read, W: Write>(
+    input: &mut R,
+    out: &mut W,
+    findings: &mut Findings<SPACE>,
+    pages: &mut [u8; PAGES],
+) {
     let mut bytes = [0u8; 24];
-    let mut left: u32 = 1000000;
-    while 0 < left {
-        left -= 1;
-        if stdio::read_full(input, &mut bytes) < 24 {
+    for _ in 0..1_000_000 {
+        if input.read_exact(&mut bytes).is_err() {
             return;
         }
-        used = setting::call(space, used, &bytes);
-        let size = size_in(&bytes, pages);
-        laying::call(out, &space[..used], &mut pages[..size], bytes[0]);
+        findings.call(&bytes);
+        let size = size_at(&bytes, 4, pages);
+        laying::call(out, findings.as_slice(), &mut pages[..size], bytes[0]);
     }
 }
 
-// The same, in spaces of these lengths.
-fn run<R: Read, W: Write>(
-    input: &mut R,
-    out: &mut W,
-    space: &mut [u8; SPACE],
-    pages: &mut [u8; PAGES],
-) {
-    make_calls(input, out, space, pages);
-}
-
 fn main(rt: HostRuntime) {
-    let mut space = [0u8; SPACE];
+    let mut findings = Findings {
+        space: [0; SPACE],
+        used: 0,
+    };
     let mut pages = [0u8; PAGES];
-    run(&mut rt.stdin(), &mut rt.stdout(), &mut space, &mut pages);
+    make_calls(&mut rt.stdin(), &mut rt.stdout(), &mut findings, &mut pages);
 }

@@ -1,37 +1,39 @@
 // The calls that change the findings area, which is the first bytes of a space. Nothing is printed for them.
-ghost use Rattle.std.specs.Prelude.{◌≡◌, ◌+◌, ◌-◌, ◌*◌, ◌/◌, ◌%◌, ◌≤◌, min, length};
+ghost use Rattle.std.specs.Prelude.{◌≡◌, ◌+◌, ◌-◌, ◌*◌, ◌/◌, ◌%◌, ◌≤◌, min, length, take};
 ghost use Rattle.codec.specs.Codec.{u16_at};
 ghost use Rattle.page_runs.specs.Setting.{finding_plus, findings_put, zeroed, byte_set, used_after, space_after};
+
+use writer_calls::setting::{fill, size_at};
 
 // The u16 at a place of a call, with a number added in 16 bits.
 fn added(bytes: &[u8], at: usize, more: u16) -> u16
     ensures { result ≡ (u16_at bytes.now at + more) % 65536 }
 {
-    std::num::wrapping_add_u16(codec::u16_at(bytes, at), more)
+    codec::u16_at(bytes, at).wrapping_add(more)
 }
 
 // The finding in a call, with a number added to each of its five fields.
 fn finding(bytes: &[u8], more: u16) -> [u8; 12]
     ensures { result ≡ finding_plus bytes.now more }
 {
-    let lost = added(bytes, 14, more);
-    let kept = added(bytes, 16, more);
-    let moment = added(bytes, 18, more);
-    let store = added(bytes, 20, more);
-    let site = added(bytes, 22, more);
+    let lost = added(bytes, 14, more).to_le_bytes();
+    let kept = added(bytes, 16, more).to_le_bytes();
+    let moment = added(bytes, 18, more).to_le_bytes();
+    let store = added(bytes, 20, more).to_le_bytes();
+    let site = added(bytes, 22, more).to_le_bytes();
     [
         codec::byte_at(bytes, 12),
         codec::byte_at(bytes, 13),
-        (lost % 256) as u8,
-        (lost / 256) as u8,
-        (kept % 256) as u8,
-        (kept / 256) as u8,
-        (moment % 256) as u8,
-        (moment / 256) as u8,
-        (store % 256) as u8,
-        (store / 256) as u8,
-        (site % 256) as u8,
-        (site / 256) as u8,
+        lost[0],
+        lost[1],
+        kept[0],
+        kept[1],
+        moment[0],
+        moment[1],
+        store[0],
+        store[1],
+        site[0],
+        site[1],
     ]
 }
 
@@ -43,8 +45,7 @@ fn fitting(space: &[u8], at: usize, count: u32) -> usize
         return 0;
     }
     let room = (space.len() - at) / 12;
-    let n = count as usize;
-    if n < room { n } else { room }
+    (count as usize).min(room)
 }
 
 // Puts so many findings from a place on.
@@ -54,12 +55,10 @@ fn put_findings(space: &mut [u8], at: usize, bytes: &[u8], count: usize)
 {
     let step = codec::u16_at(bytes, 2);
     let mut more: u16 = 0;
-    let mut i: usize = 0;
-    while i < count {
+    for i in 0..count {
         let one = finding(bytes, more);
         codec::put(space, at + 12 * i, &one);
-        more = std::num::wrapping_add_u16(more, step);
-        i += 1;
+        more = more.wrapping_add(step);
     }
 }
 
@@ -69,7 +68,7 @@ fn zero(space: &mut [u8], used: usize, size: usize)
     ensures { space.new ≡ zeroed used size space.old }
 {
     if used < size {
-        writer_calls::setting::fill(&mut space[used..], 0, 0);
+        fill(&mut space[used..], 0, 0);
     }
 }
 
@@ -82,28 +81,46 @@ fn set_byte(space: &mut [u8], used: usize, at: usize, b: u8)
     }
 }
 
-// The call, and how many bytes the area has after it: 1 puts findings behind the area, 2 makes it shorter or longer, 3 sets a byte. Any
-// other changes nothing.
-pub fn call(space: &mut [u8], used: usize, bytes: &[u8]) -> usize
-    ensures value { result ≡ used_after space.old used bytes.now }
-    ensures space_after { space.new ≡ space_after space.old used bytes.now }
-{
-    let number = codec::u32_at(bytes, 4);
-    match codec::byte_at(bytes, 0) {
-        1 => {
-            let count = fitting(space, used, number);
-            put_findings(space, used, bytes, count);
-            used + 12 * count
+// The findings area: the first bytes of a space.
+#[derive(Drop)]
+pub struct Findings<const N: usize> {
+    pub space: [u8; N],
+    pub used: usize,
+    ghost within: { used ≤ N },
+}
+
+impl<const N: usize> Findings<N> {
+    // The area's bytes.
+    pub fn as_slice(&self) -> &[u8]
+        ensures { result.now ≡ take self.now.used self.now.space }
+    {
+        &self.space[..self.used]
+    }
+
+    // The call: 1 puts findings behind the area, 2 makes it shorter or longer, 3 sets a byte. Any other changes nothing.
+    pub fn call(&mut self, bytes: &[u8])
+        ensures used_after { self.new.used ≡ used_after self.old.space self.old.used bytes.now }
+        ensures space_after { self.new.space ≡ space_after self.old.space self.old.used bytes.now }
+    {
+        let number = codec::u32_at(bytes, 4);
+        match codec::byte_at(bytes, 0) {
+            1 => {
+                let count = fitting(&self.space, self.used, number);
+                put_findings(&mut self.space, self.used, bytes, count);
+                self.used += 12 * count;
+            }
+            2 => {
+                let size = size_at(bytes, 4, &self.space);
+                zero(&mut self.space, self.used, size);
+                self.used = size;
+            }
+            3 => set_byte(
+                &mut self.space,
+                self.used,
+                number as usize,
+                codec::byte_at(bytes, 1),
+            ),
+            _ => {}
         }
-        2 => {
-            let size = crate::size_in(bytes, space);
-            zero(space, used, size);
-            size
-        }
-        3 => {
-            set_byte(space, used, number as usize, codec::byte_at(bytes, 1));
-            used
-        }
-        _ => used,
     }
 }

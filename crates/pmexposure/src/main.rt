@@ -2,22 +2,12 @@
 #![tactic(auto)]
 
 use reports::exposing;
+use stdio::Console;
 
 // An input of more than 65,536 bytes is read as far as 65,537, and refused by 2.
 fn main(rt: HostRuntime) {
     let mut trace = [0u8; 65537];
     let mut text = [0u8; exposing::LONGEST];
-    let input = stdio::read_input(&mut rt.stdin(), &mut rt.stderr(), &mut trace, b"pmexposure");
-    if input.failed {
-        return;
-    }
-    let len = input.len;
-    let n = exposing::report(&trace[..len], &mut text);
-    stdio::write_output(
-        &mut rt.stdout(),
-        &mut rt.stderr(),
-        &text[..n],
-        n,
-        b"pmexposure",
-    );
+    let mut console = Console::new(&rt, b"pmexposure");
+    let _ = console.run(&mut trace, &mut text, exposing::report);
 }

@@ -2,16 +2,14 @@
 #![tactic(auto)]
 
 use reports::finding;
+use stdio::Console;
 
 // An input of more than 65,536 bytes is read as far as 65,537, and refused by 2. The area has room for the findings of every trace.
 fn main(rt: HostRuntime) {
     let mut trace = [0u8; 65537];
     let mut area = [0u8; 65520];
-    let input = stdio::read_input(&mut rt.stdin(), &mut rt.stderr(), &mut trace, b"pmfindings");
-    if input.failed {
-        return;
-    }
-    let len = input.len;
-    let n = finding::put_report(&trace[..len], &mut area);
-    stdio::write_output(&mut rt.stdout(), &mut rt.stderr(), &area, n, b"pmfindings");
+    let mut console = Console::new(&rt, b"pmfindings");
+    let _ = console.run(&mut trace, &mut area, |trace, area| {
+        finding::put_report(trace, area)
+    });
 }

@@ -3,22 +3,12 @@
 #![tactic(auto)]
 
 use reports::asking;
+use stdio::Console;
 
 // A trace of more than 65,536 bytes is read as far as 65,537, and refused by 2.
 fn main(rt: HostRuntime) {
     let mut input = [0u8; 65539];
     let mut text = [0u8; asking::LONGEST];
-    let read = stdio::read_input(&mut rt.stdin(), &mut rt.stderr(), &mut input, b"pminterval");
-    if read.failed {
-        return;
-    }
-    let len = read.len;
-    let n = asking::report(&input[..len], &mut text);
-    stdio::write_output(
-        &mut rt.stdout(),
-        &mut rt.stderr(),
-        &text[..n],
-        n,
-        b"pminterval",
-    );
+    let mut console = Console::new(&rt, b"pminterval");
+    let _ = console.run(&mut input, &mut text, asking::report);
 }

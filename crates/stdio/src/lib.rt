@@ -1,124 +1,108 @@
-// A reader read into a slice, and bytes and numbers written to a writer. A program's reading of its standard input and its writing to
-// standard output complain on standard error where they fail, with the program's name in front.
+// A reader read into a slice, and a program's standard streams: it complains on standard error where its input cannot be read or its output
+// cannot be written, with its name in front.
 #![tactic(auto)]
 
-ghost use Rattle.std.specs.Prelude.{◌≡◌, ◌≤◌, min, length, take};
+ghost use Rattle.std.specs.Prelude.{◌≡◌, ◌≤◌, ℕ, length, take, IfOk, OnErr, MatchResult};
+ghost use Rattle.stdio.specs.Report.{Reports};
 
-use std::io::{Read, Write};
+use std::convert::AsSlice;
+use std::io::{Read, Stderr, Stdin, Stdout, Write};
 
-// How many bytes came, and whether a read failed after them.
-#[derive(Drop)]
-pub struct Input {
+// A read failed, after so many bytes.
+#[derive(Clone, Copy, Debug, PartialEq, Eq)]
+pub struct ReadFailed {
     pub len: usize,
-    pub failed: bool,
 }
 
-// One read. A read that fails brings no byte.
-fn read_some<R: Read>(from: &mut R, buf: &mut [u8]) -> Input
-    ensures { result.len ≤ length buf.new }
+// Reads until the buffer is full, the input ends or a read fails, and answers how many bytes came.
+fn read_all<R: Read>(from: &mut R, buf: &mut [u8]) -> Result<usize, ReadFailed>
+    ensures { MatchResult result (λ len. len ≤ length buf.new) (λ e. e.len ≤ length buf.new) }
 {
-    match from.read(buf) {
-        Ok(len) => Input { len, failed: false },
-        Err(_) => Input {
-            len: 0,
-            failed: true,
-        },
-    }
-}
-
-// Reads until the buffer is full, the input ends or a read fails.
-fn read_all<R: Read>(from: &mut R, buf: &mut [u8]) -> Input
-    ensures { result.len ≤ length buf.new }
-{
+    // stays: std's `read_exact` loses how many bytes came before the end, and its `read_to_end` needs a heap.
     let mut done = 0;
-    let mut failed = false;
     while done < buf.len() {
-        let some = read_some(from, &mut buf[done..]);
-        failed = some.failed;
-        if some.len == 0 {
-            break;
+        match from.read(&mut buf[done..]) {
+            Ok(0) => break,
+            Ok(len) => done += len,
+            Err(_) => return Err(ReadFailed { len: done }),
         }
-        done += some.len;
     }
-    Input { len: done, failed }
+    Ok(done)
 }
 
 // The same, and how many bytes came: a read that fails counts as the input's end.
 pub fn read_full<R: Read>(from: &mut R, buf: &mut [u8]) -> usize
     ensures { result ≤ length buf.new }
 {
-    read_all(from, buf).len
+    read_all(from, buf).unwrap_or_else(|e| e.len)
 }
 
-// One write, and how many bytes it took. A write that fails takes none.
-fn write_some<W: Write>(to: &mut W, buf: &[u8]) -> usize
-    ensures { result ≤ length buf.now }
-{
-    match to.write(buf) {
-        Ok(len) => len,
-        Err(_) => 0,
-    }
+// A program's standard streams, and its name.
+#[derive(Drop)]
+pub struct Console<'a, R, W, E> {
+    pub input: R,
+    pub output: W,
+    pub errors: E,
+    pub name: &'a [u8],
 }
 
-// Writes all of the bytes and answers true, or stops at the first write that takes none or fails and answers false, when some of them may
-// have been written.
-pub fn write_all<W: Write>(to: &mut W, buf: &[u8]) -> bool {
-    let mut done = 0;
-    while done < buf.len() {
-        let len = write_some(to, &buf[done..]);
-        if len == 0 {
-            return false;
+impl<'a> Console<'a, Stdin, Stdout, Stderr> {
+    // The streams of the process.
+    pub fn new(rt: &HostRuntime, name: &'a [u8]) -> Self
+        ensures { result.name.now ≡ name.now }
+    {
+        Console {
+            input: rt.stdin(),
+            output: rt.stdout(),
+            errors: rt.stderr(),
+            name,
         }
-        done += len;
     }
-    true
 }
 
-// Writes a number in decimal, and answers whether all of it was written.
-pub fn write_decimal<W: Write>(to: &mut W, n: u64) -> bool {
-    write!(to, "{n}").is_ok()
-}
-
-// `pmjudge: standard input cannot be read`
-fn complain<E: Write>(errors: &mut E, name: &[u8], words: &[u8]) {
-    write_all(errors, name);
-    write_all(errors, words);
-}
-
-// Reads until the buffer is full, the input ends or a read fails, and complains where a read failed.
-pub fn read_input<R: Read, E: Write>(
-    input: &mut R,
-    errors: &mut E,
-    buf: &mut [u8],
-    name: &[u8],
-) -> Input
-    ensures upper_bound { result.len ≤ length buf.new }
-    ensures counted { result.len ≡ length (take result.len buf.new) }
-{
-    let read = read_all(input, buf);
-    if read.failed {
-        complain(errors, name, b": standard input cannot be read\n");
+impl<R: Read, W: Write, E: Write> Console<'_, R, W, E> {
+    // `pmjudge: standard input cannot be read`
+    fn complain(&mut self, words: &[u8]) {
+        let _ = self.errors.write_all(self.name);
+        let _ = self.errors.write_all(words);
     }
-    read
-}
 
-// A number, or the length of a buffer where that is less.
-fn at_most(len: usize, buf: &[u8]) -> usize
-    ensures { result ≡ min len (length buf.now) }
-{
-    if len < buf.len() { len } else { buf.len() }
-}
+    // Reads until the buffer is full, the input ends or a read fails, and complains where a read failed.
+    pub fn read_input(&mut self, buf: &mut [u8]) -> Result<usize, ReadFailed>
+        ensures upper_bound { MatchResult result (λ len. len ≤ length buf.new) (λ e. e.len ≤ length buf.new) }
+        ensures counted { MatchResult result (λ len. len ≡ length (take len buf.new))
+            (λ e. e.len ≡ length (take e.len buf.new)) }
+    {
+        let read = read_all(&mut self.input, buf);
+        if read.is_err() {
+            self.complain(b": standard input cannot be read\n");
+        }
+        read
+    }
 
-// Writes the first bytes of a buffer, so many of them, or all where it has fewer, and complains where they cannot be written.
-pub fn write_output<W: Write, E: Write>(
-    output: &mut W,
-    errors: &mut E,
-    buf: &[u8],
-    len: usize,
-    name: &[u8],
-) {
-    let n = at_most(len, buf);
-    if !write_all(output, &buf[..n]) {
-        complain(errors, name, b": cannot write to standard output\n");
+    // Writes the bytes, and complains where they cannot be written.
+    pub fn write_output(&mut self, bytes: &[u8]) {
+        if self.output.write_all(bytes).is_err() {
+            self.complain(b": cannot write to standard output\n");
+        }
+    }
+
+    // A program: reads its input into the buffer, has the report of it put at the start of the text, and writes so much of the text as the
+    // report answers, or all of it where it has less. Where a read fails it writes nothing.
+    pub fn run<const N: usize, T: AsSlice<u8>, F: FnOnce(&[u8], &mut T) -> usize>(
+        &mut self,
+        buf: &mut [u8; N],
+        text: &mut T,
+        report: F,
+    ) -> Result<usize, ReadFailed>
+        requires { F.IsAlwaysCallable report }
+        ensures reported { IfOk result (λ n. (len : ℕ) × Reports F.FnOnce report (take len buf.new) text.old n text.new) }
+        ensures kept { OnErr result (text.new ≡ text.old) }
+    {
+        let len = self.read_input(buf)?;
+        let n = report(&buf[..len], text);
+        let bytes = text.as_slice();
+        self.write_output(&bytes[..n.min(bytes.len())]);
+        Ok(n)
     }
 }

@@ -25,39 +25,39 @@ fn read_part<R: Read>(input: &mut R, header: &[u8], at: u8, buf: &mut [u8]) -> u
     stdio::read_full(input, &mut buf[..len])
 }
 
-// `differs: small/torn`, or nothing where the entry is the same.
-fn print_differs<W: Write>(out: &mut W, name: &[u8], same: bool) {
-    if same {
-        return;
-    }
-    stdio::write_all(out, b"differs: ");
-    stdio::write_all(out, name);
-    stdio::write_all(out, b"\n");
+// How many traces got each answer, and how many findings of each kind there were.
+#[derive(Drop)]
+struct Tally {
+    answers: [u32; 19],
+    kinds: [u32; 9],
+}
+
+// `differs: small/torn`
+fn print_differs<W: Write>(out: &mut W, name: &[u8]) {
+    let _ = write!(out, "differs: ");
+    let _ = out.write_all(name);
+    let _ = writeln!(out);
 }
 
 // Judges a trace into an area as long as the one it is compared with. The input decides the answer, and nothing is promised of it.
-fn run_parts(
-    trace: &[u8],
-    after: &[u8],
-    text: &[u8],
-    answers: &mut [u32],
-    kinds: &mut [u32],
-) -> bool {
+fn run_parts(trace: &[u8], after: &[u8], text: &[u8], tally: &mut Tally) -> bool {
     let mut area = [0u8; 65536];
     let len = after.len();
     if area.len() < len {
         return false;
     }
-    corpus::run(trace, &mut area[..len], after, text, answers, kinds)
+    corpus::run(
+        trace,
+        &mut area[..len],
+        after,
+        text,
+        &mut tally.answers,
+        &mut tally.kinds,
+    )
 }
 
 // Reads the trace, findings area and text of an entry, whose lengths the header gives, and runs the trace.
-fn read_parts<R: Read>(
-    input: &mut R,
-    header: &[u8],
-    answers: &mut [u32],
-    kinds: &mut [u32],
-) -> bool {
+fn read_parts<R: Read>(input: &mut R, header: &[u8], tally: &mut Tally) -> bool {
     let mut trace = [0u8; 65537];
     let mut after = [0u8; 65536];
     let mut text = [0u8; 262144];
@@ -68,23 +68,18 @@ fn read_parts<R: Read>(
         &trace[..trace_len],
         &after[..after_len],
         &text[..text_len],
-        answers,
-        kinds,
+        tally,
     )
 }
 
 // Reads an entry, its name first, and runs it. Nothing is promised of its answer either.
-fn entry<R: Read, W: Write>(
-    input: &mut R,
-    out: &mut W,
-    header: &[u8],
-    answers: &mut [u32],
-    kinds: &mut [u32],
-) -> bool {
+fn entry<R: Read, W: Write>(input: &mut R, out: &mut W, header: &[u8], tally: &mut Tally) -> bool {
     let mut name = [0u8; 64];
     let n = read_part(input, header, 0, &mut name);
-    let same = read_parts(input, header, answers, kinds);
-    print_differs(out, &name[..n], same);
+    let same = read_parts(input, header, tally);
+    if !same {
+        print_differs(out, &name[..n]);
+    }
     same
 }
 
@@ -96,73 +91,53 @@ struct Ran {
 }
 
 // Runs the entries of the input to its end, or the first 65,535 of them.
-fn run_all<R: Read, W: Write>(
-    input: &mut R,
-    out: &mut W,
-    answers: &mut [u32; 19],
-    kinds: &mut [u32; 9],
-) -> Ran {
+fn run_all<R: Read, W: Write>(input: &mut R, out: &mut W, tally: &mut Tally) -> Ran {
     let mut header = [0u8; 16];
-    let mut traces: u16 = 0;
-    let mut differ: u16 = 0;
-    while traces < 65535 {
-        if stdio::read_full(input, &mut header) < 16 {
+    let mut ran = Ran {
+        traces: 0,
+        differ: 0,
+    };
+    for _ in 0..65535u16 {
+        if input.read_exact(&mut header).is_err() {
             break;
         }
-        traces += 1;
-        if !entry(input, out, &header, answers, kinds) {
-            differ += 1;
+        ran.traces += 1;
+        if !entry(input, out, &header, tally) {
+            ran.differ += 1;
         }
     }
-    Ran { traces, differ }
+    ran
 }
 
-// The words, a number after them, and the line's end.
-fn print_count<W: Write>(out: &mut W, words: &[u8], n: u32) {
-    stdio::write_all(out, words);
-    stdio::write_all(out, b" ");
-    stdio::write_decimal(out, n as u64);
-    stdio::write_all(out, b"\n");
-}
-
-// `refused by 9 135`; nothing for 8 and for 15 to 17, which no trace is refused by.
-fn print_refused<W: Write>(out: &mut W, number: u8, n: u32) {
-    if number == 8 || (14 < number && number < 18) {
-        return;
-    }
-    stdio::write_all(out, b"refused by ");
-    stdio::write_decimal(out, number as u64);
-    print_count(out, b"", n);
-}
-
-// How many traces were accepted, and how many refused by each number.
+// How many traces were accepted, and how many refused by each number but 8 and 15 to 17, which no trace is refused by.
 fn print_answers<W: Write>(out: &mut W, answers: &[u32; 19]) {
-    print_count(out, b"accepted", answers[0]);
-    let mut i: u8 = 1;
-    while i < 19 {
-        print_refused(out, i, answers[i as usize]);
-        i += 1;
+    let _ = writeln!(out, "accepted {}", answers[0]);
+    for (number, n) in answers.iter().enumerate().skip(1) {
+        if !matches!(number, 8 | 15..=17) {
+            let _ = writeln!(out, "refused by {number} {n}");
+        }
     }
 }
 
 // How many findings of each kind there were.
 fn print_kinds<W: Write>(out: &mut W, kinds: &[u32; 9]) {
-    let mut i: u8 = 0;
-    while i < 9 {
+    for (kind, n) in kinds.iter().enumerate() {
         let mut word = [0u8; 16];
-        let n = finding_lines::name(&mut word, 0, i);
-        print_count(out, &word[..n], kinds[i as usize]);
-        i += 1;
+        let len = finding_lines::name(&mut word, 0, kind as u8);
+        let _ = out.write_all(&word[..len]);
+        let _ = writeln!(out, " {n}");
     }
 }
 
 fn main(rt: HostRuntime) {
     let mut out = rt.stdout();
-    let mut answers = [0u32; 19];
-    let mut kinds = [0u32; 9];
-    let ran = run_all(&mut rt.stdin(), &mut out, &mut answers, &mut kinds);
-    print_count(&mut out, b"traces", ran.traces as u32);
-    print_answers(&mut out, &answers);
-    print_kinds(&mut out, &kinds);
-    print_count(&mut out, b"differ", ran.differ as u32);
+    let mut tally = Tally {
+        answers: [0; 19],
+        kinds: [0; 9],
+    };
+    let ran = run_all(&mut rt.stdin(), &mut out, &mut tally);
+    let _ = writeln!(out, "traces {}", ran.traces);
+    print_answers(&mut out, &tally.answers);
+    print_kinds(&mut out, &tally.kinds);
+    let _ = writeln!(out, "differ {}", ran.differ);
 }

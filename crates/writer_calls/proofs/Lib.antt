@@ -1,5 +1,4 @@
 -- Laws of the calls of a writer.
-pub mod AfterWriting  -- the writer and its area after a call, by the call's kind, and the record in a call
-pub mod Differences  -- the bytes that differ, place by place, and a sum of bytes
-pub mod Pattern  -- bytes of a pattern, put from the front
-pub mod Space  -- the area and the preamble after a call that sets them
+pub mod AfterWriting  -- the area after an event
+pub mod Differences  -- the first byte that differs, place by place
+pub mod Sums  -- a sum of bytes, one byte more at a time

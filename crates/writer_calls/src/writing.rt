@@ -23,7 +23,7 @@ fn writer_of(bytes: &[u8]) -> Writer
 
 // A start with so many lines, and its answer; the line goes on.
 fn print_start<W: Write>(out: &mut W, lines: u16, s: Result<Writer, Refusal>) {
-    call_lines::field(out, b"start ", lines);
+    let _ = write!(out, "start {lines}");
     call_lines::reply(out, replies::of_started(s));
 }
 
@@ -62,7 +62,7 @@ fn finish<W: Write>(out: &mut W, area: &mut [u8], w: Writer)
     ensures { area.new ≡ area_closed area.old w }
 {
     let c = writer::close(area, w);
-    call_lines::words(out, b"finish");
+    let _ = write!(out, "finish");
     call_lines::reply(out, replies::of_closed(c));
 }
 
@@ -88,6 +88,8 @@ fn call<W: Write>(out: &mut W, area: &mut [u8], preamble: &[u8], w: Writer, byte
     ensures value { result ≡ writer_after_call area.old preamble.now w bytes.now }
     ensures area_after { area.new ≡ area_after_call area.old preamble.now w bytes.now }
 {
+    // stays: the kind is a byte of the file, and `writer_after_call` and `is_answered` speak of that byte: an enum would need a match more,
+    // which makes it.
     match codec::byte_at(bytes, 0) {
         35 => start(out, area, preamble, w, codec::u16_at(bytes, 2)),
         36 => {

@@ -6,8 +6,8 @@ use Rattle.vectors.proofs.Part.{counts_put}
 use Rattle.vectors.proofs.print_kinds.Goals as goal
 
 pub slice_bounds-word-end : goal.slice_bounds-word-end
-slice_bounds-word-end g c = counts_put (name_of c.loop-i.i) (replicate 16 0) _ _ c.name-n.auto.text c.name-n.ensures
+slice_bounds-word-end g c = counts_put (name_of c.loop-kind.kind) (replicate 16 0) _ _ c.name-len.auto.text c.name-len.ensures
 
-pub slice_bounds-print_count-end : goal.slice_bounds-print_count-end
-slice_bounds-print_count-end g c =
-    sym (length-take-le _ _ (counts_put (name_of c.loop-i.i) (replicate 16 0) _ _ c.name-n.auto.text c.name-n.ensures))
+pub slice_bounds-write_all-end : goal.slice_bounds-write_all-end
+slice_bounds-write_all-end g c =
+    sym (length-take-le _ _ (counts_put (name_of c.loop-kind.kind) (replicate 16 0) _ _ c.name-len.auto.text c.name-len.ensures))

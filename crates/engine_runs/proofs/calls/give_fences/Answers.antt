@@ -3,10 +3,10 @@ use Rattle.std.proofs.Common.{add-one, rules}
 use Rattle.engine_runs.specs.Runs.{after_fences}
 use Rattle.engine_runs.proofs.calls.give_fences.Goals as goal
 
-pub loop-i-init : goal.loop-i-init
+pub loop-init : goal.loop-init
 unfolding after_fences
-loop-i-init c = search rules
+loop-init c = search rules
 
-pub loop-i-preserved : goal.loop-i-preserved
+pub loop-preserved : goal.loop-preserved
 unfolding after_fences
-loop-i-preserved c = (search rules, rw (add-one, c.give-g.ensures, c.loop-i.invariant.1))
+loop-preserved c = rw (add-one, c.give-g.ensures, c.loop.invariant)

@@ -1,5 +1,5 @@
 -- Before the loop nothing is put. Each turn puts one finding more, and what is added to the next one follows.
-use Rattle.std.proofs.Common.{◌∙◌, arith, rules}
+use Rattle.std.proofs.Common.{◌∙◌, rules}
 use Rattle.page_runs.specs.Setting.{findings_put}
 use Rattle.page_runs.proofs.Findings.{next_more, put_more}
 use Rattle.page_runs.proofs.setting.put_findings.Goals as goal
@@ -11,8 +11,7 @@ loop-i-init c = search rules
 pub loop-i-preserved : goal.loop-i-preserved
 loop-i-preserved c =
     let inv = c.loop-i.invariant in (
-      omega arith,
       search rules,
-      c.wrapping_add_u16-more.ensures.value ∙ next_more _ c.loop-i.i inv.2,
-      c.put.ensures ∙ put_more c.args.space.now c.args.at c.args.bytes.now c.loop-i.i inv.3 (inv.2 ∙ (rw c.u16_at-step.ensures)) c.finding-one.ensures,
+      next_more _ c.loop-i.i inv.1,
+      c.put.ensures ∙ put_more c.args.space.now c.args.at c.args.bytes.now c.loop-i.i inv.2 (inv.1 ∙ (rw c.u16_at-step.ensures)) c.finding-one.ensures,
     )

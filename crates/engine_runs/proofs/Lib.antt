@@ -1,2 +1,0 @@
--- Laws of the calls.
-pub mod AfterCall  -- the run after a call, by the call's kind

@@ -1,0 +1,2 @@
+-- What the program's report is.
+pub mod Report  -- what a call of the report gave

@@ -1,9 +1,0 @@
--- At most all bytes were printed. The measure is how many are left.
-use Rattle.std.proofs.Common.{◌-◌, ◌≤◌, length}
-use Rattle.writer_calls.proofs.changes.bytes.Given as goal
-
-abbrev pub invariant-loop-i : goal.invariant-loop-i
-invariant-loop-i g l = l.i ≤ length l.s
-
-abbrev pub decreases-loop-i : goal.decreases-loop-i
-decreases-loop-i g l = length l.s - l.i
