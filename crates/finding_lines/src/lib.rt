@@ -4,7 +4,7 @@
 ghost use Rattle.std.specs.Prelude.{◌≡◌};
 ghost use Rattle.text.specs.Cursor.{Puts};
 ghost use Rattle.finding_lines.specs.Lines.{name_of, is_printed, field, values, columns, finding_line};
-ghost use Rattle.finding_lines.specs.Rows.{row_at};
+ghost use Rattle.finding_lines.specs.Rows.{row_at, rows_from};
 ghost use Rattle.finding_lines.specs.Area.{lines_from};
 
 use event::Fields;
@@ -100,5 +100,49 @@ pub fn findings(text: &mut Cursor<'_>, area: &[u8], count: u16)
 {
     for i in 0..count {
         finding(text, row_at(area, i));
+    }
+}
+
+// Of so many first findings of an area, those that are shown, one after another.
+#[derive(Drop)]
+pub struct Shown<'a> {
+    area: &'a [u8],
+    before: u16,
+    count: u16,
+}
+
+impl<'a> Shown<'a> {
+    ghost use Rattle.finding_lines.specs.Shown.{rows_left};
+
+    pub fn new(area: &'a [u8], count: u16) -> Shown<'a>
+        ensures { rows_left result ≡ rows_from 0 count area.now }
+    {
+        Shown {
+            area,
+            before: 0,
+            count,
+        }
+    }
+}
+
+impl Iterator for Shown<'_> {
+    type Item = Row;
+
+    ghost use Rattle.std.specs.Iterator.{YieldsFirst, item_count};
+    ghost use Rattle.finding_lines.specs.Shown.{rows_left};
+
+    ghost next_gives = { YieldsFirst rows_left };
+
+    ghost remaining = { item_count rows_left };
+
+    fn next(&mut self) -> Option<Row> {
+        while self.before < self.count {
+            let row = row_at(self.area, self.before);
+            self.before += 1;
+            if is_printed(row.fields.kind) {
+                return Some(row);
+            }
+        }
+        None
     }
 }

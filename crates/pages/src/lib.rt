@@ -9,6 +9,7 @@ ghost use Rattle.pages.specs.Limits.{bad_length, damage_limits};
 ghost use Rattle.pages.specs.Paged.{unless_damaged, in_room, paged_of, page_area_after};
 
 use event::{Check, Refusal};
+use finding_lines::Shown;
 
 // A refusal with the position of the finding from 1, or 0 for the findings area as a whole and for the page area; or the length written.
 #[derive(Clone, Copy)]
@@ -35,18 +36,16 @@ fn damage(findings: &[u8], before: u16) -> Check
 fn unless_damaged(findings: &[u8], count: u16, answer: Paged) -> Paged
     ensures { result ≡ unless_damaged 0 count findings.now answer }
 {
-    let mut i: u16 = 0;
-    while i < count {
-        match damage(findings, i) {
+    for before in 0..count {
+        match damage(findings, before) {
             Check::Passed => {}
             Check::Refused(refusal) => {
                 return Paged::Refused {
                     refusal,
-                    position: i + 1,
+                    position: before + 1,
                 }
             }
         }
-        i += 1;
     }
     answer
 }
@@ -55,15 +54,7 @@ fn unless_damaged(findings: &[u8], count: u16, answer: Paged) -> Paged
 fn count_shown(findings: &[u8], count: u16) -> u16
     ensures { result ≡ length (rows_from 0 count findings.now) }
 {
-    let mut total: u16 = 0;
-    let mut i: u16 = 0;
-    while i < count {
-        let row = finding_lines::row_at(findings, i);
-        let fields = row.fields;
-        total += page_layout::shown(fields.kind) as u16;
-        i += 1;
-    }
-    total
+    Shown::new(findings, count).count() as u16
 }
 
 // The length of the pages of so many findings: each page has a heading and a foot, and a line has 62 bytes.
