@@ -33,7 +33,7 @@ infixl 30 ◌then◌
 pub ◌then◌ : {a b : List ℕ} {o p q : Cursor} → Puts a o p → Puts b p q → Puts (a ++ b) o q
 ◌then◌ {b = b} e f = record { text = f.text ∙ ap (put b) e.text ∙ sym (put_append _ b _); same = f.same ∙ e.same }
 
--- a slice that was lent to a cursor, and is back: the text that was put is in it
-pub put_back : {name : GName} {d bytes : List ℕ} {at : ℕ} {s : List ℕ} {first last : Cursor} → first.bytes.ghost_name ≡ name →
-    has_put first ≡ out d at → Puts s first last → (name ≡ last.bytes.ghost_name → bytes ≡ last.bytes.now) → out bytes last.next ≡ put s (out d at)
-put_back {s = s} {last = last} same start e back = rw (back (sym same ∙ sym e.same)) (e.text ∙ ap (put s) start)
+-- a slice that was lent to a cursor, and is back: the text that was put is in it, and ends at the cursor's place
+pub put_back : {name : GName} {d bytes s : List ℕ} {at n : ℕ} {first last : Cursor} → first.bytes.ghost_name ≡ name → has_put first ≡ out d at →
+    Puts s first last → (name ≡ last.bytes.ghost_name → bytes ≡ last.bytes.now) → n ≡ last.next → out bytes n ≡ put s (out d at)
+put_back {s = s} same start e back place = rw (place, back (sym same ∙ sym e.same)) (e.text ∙ ap (put s) start)

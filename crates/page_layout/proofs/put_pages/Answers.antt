@@ -15,4 +15,5 @@ pub returns : goal.returns
 returns c =
     let l = c.loop-before in
     let all = l.invariant l.printed (pages_done l.before c.args.pages (rows_left l.rows) (omega arith) (nothing l.printed)) in
-    rw (← c.new-rows.ensures, c.place.ensures) (put_back c.new-printed.ensures.same_reference c.new-printed.ensures.value all (search rules))
+    let start = c.new-printed.ensures in
+    rw (← c.new-rows.ensures) (put_back start.same_reference start.value all (search rules) c.place.ensures)
