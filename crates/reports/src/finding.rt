@@ -4,6 +4,7 @@ ghost use Rattle.text.specs.Text.{out, put};
 ghost use Rattle.reports.specs.Findings.{report_of};
 
 use event::numbers;
+use text::Cursor;
 use verdict::Verdict;
 
 // Judges the trace into the area, where the findings or the refusal then stand at the start, and answers their length.
@@ -11,12 +12,11 @@ pub fn put_report(trace: &[u8], area: &mut [u8]) -> usize
     ensures { out area.new result ≡ put (report_of trace.now area.old) (out area.old 0) }
 {
     match judge::judge(trace, area) {
-        Verdict::Refused { refusal, record } => lines::refusal(
-            area,
-            0,
-            numbers::number(refusal),
-            record,
-        ),
+        Verdict::Refused { refusal, record } => {
+            let mut text = Cursor::new(area, 0);
+            lines::refusal(&mut text, numbers::number(refusal), record);
+            text.place()
+        }
         Verdict::Accepted {
             events,
             fences: _,
