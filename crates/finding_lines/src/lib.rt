@@ -1,48 +1,38 @@
-// The lines of findings, each put into a slice from a place on. Each function answers the place after what it put.
+// The lines of findings.
 #![tactic(auto)]
 
-ghost use Rattle.std.specs.Prelude.{◌≡◌, ◌≤◌};
-ghost use Rattle.text.specs.Text.{out, put};
-ghost use Rattle.finding_lines.specs.Lines.{name_of, is_printed, values, columns, finding_line};
-ghost use Rattle.finding_lines.specs.Lines.{field as Lines·field};
-ghost use Rattle.finding_lines.specs.Rows.{row_at};
+ghost use Rattle.std.specs.Prelude.{◌≡◌};
+ghost use Rattle.text.specs.Cursor.{Puts};
+ghost use Rattle.finding_lines.specs.Lines.{name_of, is_printed, field, values, columns, finding_line};
+ghost use Rattle.finding_lines.specs.Rows.{row_at, rows_from};
 ghost use Rattle.finding_lines.specs.Area.{lines_from};
 
 use event::Fields;
+use text::Cursor;
 
 // A finding of an area, with its event's number and site.
-#[derive(Drop)]
+#[derive(Clone, Copy)]
 pub struct Row {
     pub event: u32,
     pub site: u16,
     pub fields: Fields,
 }
 
-// The name of a warning; a number past the kinds has none.
-fn warning_name(text: &mut [u8], at: usize, kind: u8) -> usize
-    requires { 4 ≤ kind }
-    ensures { out text.new result ≡ put (name_of kind) (out text.old at) }
-{
-    match kind {
-        4 => text::put(text, at, b"unlogged"),
-        5 => text::put(text, at, b"clean"),
-        6 => text::put(text, at, b"written-twice"),
-        7 => text::put(text, at, b"logged-twice"),
-        8 => text::put(text, at, b"empty"),
-        _ => at,
-    }
-}
-
 // The name of a finding's kind; a number that is no kind has none.
-pub fn name(text: &mut [u8], at: usize, kind: u8) -> usize
-    ensures { out text.new result ≡ put (name_of kind) (out text.old at) }
+pub fn name(kind: u8) -> &'static [u8]
+    ensures { result.now ≡ name_of kind }
 {
     match kind {
-        0 => text::put(text, at, b"none"),
-        1 => text::put(text, at, b"holds"),
-        2 => text::put(text, at, b"lost"),
-        3 => text::put(text, at, b"out-of-order"),
-        _ => warning_name(text, at, kind),
+        0 => b"none",
+        1 => b"holds",
+        2 => b"lost",
+        3 => b"out-of-order",
+        4 => b"unlogged",
+        5 => b"clean",
+        6 => b"written-twice",
+        7 => b"logged-twice",
+        8 => b"empty",
+        _ => b"",
     }
 }
 
@@ -54,45 +44,42 @@ pub fn is_printed(kind: u8) -> bool
 }
 
 // A blank and a number.
-fn field(text: &mut [u8], at: usize, n: u16) -> usize
-    ensures { out text.new result ≡ put (Lines·field n) (out text.old at) }
+fn put_field(text: &mut Cursor<'_>, n: u16)
+    ensures { Puts (field n) text.old text.new }
 {
-    let a = text::put(text, at, b" ");
-    text::number(text, a, n as u32)
+    text.put(b" ");
+    text.number(n as u32);
 }
 
 // The four fields of a finding: lost, kept, moment, store.
-fn put_values(text: &mut [u8], at: usize, f: Fields) -> usize
-    ensures { out text.new result ≡ put (values f) (out text.old at) }
+fn put_values(text: &mut Cursor<'_>, f: Fields)
+    ensures { Puts (values f) text.old text.new }
 {
-    let a = field(text, at, f.lost);
-    let b = field(text, a, f.kept);
-    let c = field(text, b, f.moment);
-    field(text, c, f.store)
+    put_field(text, f.lost);
+    put_field(text, f.kept);
+    put_field(text, f.moment);
+    put_field(text, f.store);
 }
 
 // The columns of a finding that is printed.
-fn put_columns(text: &mut [u8], at: usize, row: Row) -> usize
-    ensures { out text.new result ≡ put (columns row.event row.site row.fields) (out text.old at) }
+fn put_columns(text: &mut Cursor<'_>, row: Row)
+    ensures { Puts (columns row.event row.site row.fields) text.old text.new }
 {
-    let f = row.fields;
-    let a = text::number(text, at, row.event);
-    let b = field(text, a, row.site);
-    let c = text::put(text, b, b" ");
-    let d = name(text, c, f.kind);
-    let e = put_values(text, d, f);
-    text::put(text, e, b"\n")
+    text.number(row.event);
+    put_field(text, row.site);
+    text.put(b" ");
+    text.put(name(row.fields.kind));
+    put_values(text, row.fields);
+    text.put(b"\n");
 }
 
 // `5 14 out-of-order 0 64 2 1`, or nothing for the finding none.
-pub fn finding(text: &mut [u8], at: usize, row: Row) -> usize
-    ensures { out text.new result ≡ put (finding_line row.event row.site row.fields) (out text.old at) }
+pub fn finding(text: &mut Cursor<'_>, row: Row)
+    ensures { Puts (finding_line row.event row.site row.fields) text.old text.new }
 {
-    let f = row.fields;
-    if is_printed(f.kind) {
-        return put_columns(text, at, row);
+    if is_printed(row.fields.kind) {
+        put_columns(text, row);
     }
-    at
 }
 
 // The finding of an area that has so many before it.
@@ -108,15 +95,54 @@ pub fn row_at(area: &[u8], before: u16) -> Row
 }
 
 // The first findings of an area, so many of them, with the event numbers from 1 on.
-pub fn findings(text: &mut [u8], at: usize, area: &[u8], count: u16) -> usize
-    ensures { out text.new result ≡ put (lines_from 0 count area.now) (out text.old at) }
+pub fn findings(text: &mut Cursor<'_>, area: &[u8], count: u16)
+    ensures { Puts (lines_from 0 count area.now) text.old text.new }
 {
-    let mut next = at;
-    let mut i: u16 = 0;
-    while i < count {
-        let row = row_at(area, i);
-        next = finding(text, next, row);
-        i += 1;
+    for i in 0..count {
+        finding(text, row_at(area, i));
     }
-    next
+}
+
+// Of so many first findings of an area, those that are shown, one after another.
+#[derive(Drop)]
+pub struct Shown<'a> {
+    area: &'a [u8],
+    before: u16,
+    count: u16,
+}
+
+impl<'a> Shown<'a> {
+    ghost use Rattle.finding_lines.specs.Shown.{rows_left};
+
+    pub fn new(area: &'a [u8], count: u16) -> Shown<'a>
+        ensures { rows_left result ≡ rows_from 0 count area.now }
+    {
+        Shown {
+            area,
+            before: 0,
+            count,
+        }
+    }
+}
+
+impl Iterator for Shown<'_> {
+    type Item = Row;
+
+    ghost use Rattle.std.specs.Iterator.{YieldsFirst, item_count};
+    ghost use Rattle.finding_lines.specs.Shown.{rows_left};
+
+    ghost next_gives = { YieldsFirst rows_left };
+
+    ghost remaining = { item_count rows_left };
+
+    fn next(&mut self) -> Option<Row> {
+        while self.before < self.count {
+            let row = row_at(self.area, self.before);
+            self.before += 1;
+            if is_printed(row.fields.kind) {
+                return Some(row);
+            }
+        }
+        None
+    }
 }

@@ -1,3 +1,3 @@
 -- Laws of the lines.
-pub mod Put  -- lines put part by part, and the line of no event
+pub mod Sites  -- the line of an event's site
 pub mod Size  -- how long the lines are at most

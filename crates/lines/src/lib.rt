@@ -1,57 +1,57 @@
-// The lines around the findings, each put into a slice from a place on. Each function answers the place after its line.
+// The lines around the findings.
 #![tactic(auto)]
 
-ghost use Rattle.std.specs.Prelude.{◌≡◌, ◌++◌};
-ghost use Rattle.text.specs.Text.{decimal, out, put};
+ghost use Rattle.std.specs.Prelude.{◌++◌};
+ghost use Rattle.text.specs.Text.{decimal};
+ghost use Rattle.text.specs.Cursor.{Puts};
 ghost use Rattle.lines.specs.Lines.{head_line, foot_line, refusal_line};
+
+use text::Cursor;
 
 // A number between two words, and another between the second and a third.
 pub fn phrase(
-    text: &mut [u8],
-    at: usize,
+    text: &mut Cursor<'_>,
     first: &[u8],
     m: u32,
     second: &[u8],
     n: u32,
     third: &[u8],
-) -> usize
-    ensures { out text.new result ≡
-        put (first.now ++ decimal m ++ second.now ++ decimal n ++ third.now) (out text.old at) }
+)
+    ensures { Puts (first.now ++ decimal m ++ second.now ++ decimal n ++ third.now) text.old text.new }
 {
-    let a = text::put(text, at, first);
-    let b = text::number(text, a, m);
-    let c = text::put(text, b, second);
-    let d = text::number(text, c, n);
-    text::put(text, d, third)
+    text.put(first);
+    text.number(m);
+    text.put(second);
+    text.number(n);
+    text.put(third);
 }
 
 // `trace 9 events 2 lines`
-pub fn head(text: &mut [u8], at: usize, events: u16, lines: u16) -> usize
-    ensures { out text.new result ≡ put (head_line events lines) (out text.old at) }
+pub fn head(text: &mut Cursor<'_>, events: u16, lines: u16)
+    ensures { Puts (head_line events lines) text.old text.new }
 {
     phrase(
         text,
-        at,
         b"trace ",
         events as u32,
         b" events ",
         lines as u32,
         b" lines\n",
-    )
+    );
 }
 
 // `end 4`
-pub fn foot(text: &mut [u8], at: usize, findings: u16) -> usize
-    ensures { out text.new result ≡ put (foot_line findings) (out text.old at) }
+pub fn foot(text: &mut Cursor<'_>, findings: u16)
+    ensures { Puts (foot_line findings) text.old text.new }
 {
-    let a = text::put(text, at, b"end ");
-    let b = text::number(text, a, findings as u32);
-    text::put(text, b, b"\n")
+    text.put(b"end ");
+    text.number(findings as u32);
+    text.put(b"\n");
 }
 
 // `refused 9 at 3`
-pub fn refusal(text: &mut [u8], at: usize, number: u8, place: u32) -> usize
-    ensures { out text.new result ≡ put (refusal_line number place) (out text.old at) }
+pub fn refusal(text: &mut Cursor<'_>, number: u8, place: u32)
+    ensures { Puts (refusal_line number place) text.old text.new }
 {
-    phrase(text, at, b"refused ", number as u32, b" at ", place, b"\n")
+    phrase(text, b"refused ", number as u32, b" at ", place, b"\n");
 }

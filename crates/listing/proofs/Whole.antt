@@ -1,6 +1,6 @@
 -- The report of a trace, from what the judge answers and what it leaves in the area.
 use Rattle.std.specs.Prelude.{Ok, Err}
-use mathlib.Core.Path.{◌≡◌, refl, sym, ap, ◌∙◌}
+use mathlib.Core.Path.{◌≡◌, refl, ◌∙◌, sym, ap}
 use mathlib.Core.List.{List, ◌++◌}
 use Prim.Native.Nat.{ℕ}
 use native.Mathlib.Omega.{arith}
@@ -13,7 +13,8 @@ use Rattle.history.specs.Given.{reported}
 use Rattle.trace.specs.Answers.{TraceCheck}
 use Rattle.trace.specs.Records.{lines_in, events_in}
 use Rattle.verdict.specs.Verdict.{trace_check, history_of, answers_of, verdict_for, verdict_of, area_after}
-use Rattle.text.specs.Text.{Out, put}
+use Rattle.text.specs.Cursor.{Puts}
+use Rattle.text.specs.declared.Cursor.{Cursor}
 use Rattle.lines.specs.Lines.{head_line, foot_line, refusal_line}
 use Rattle.finding_lines.specs.Area.{lines_from}
 use Rattle.listing.specs.Report.{finding_lines, report_of}
@@ -44,17 +45,17 @@ module _ (trace area : List ℕ) where
           record { passes = p; counted = ap (λ (t : Totals). t.events) same; found = ap (λ (t : Totals). t.findings) same }
 
   -- the refusal is put
-  pub refusal_put : {x : Refusal} {n number : ℕ} (o : Out) {p : Out} → verdict_of trace area ≡ refused_at x n → number ≡ number_of x →
-      p ≡ put (refusal_line number n) o → p ≡ put (report_of trace area) o
-  refusal_put o e k q = rw (refused_report e, ← k) q
+  pub refusal_put : {x : Refusal} {n number : ℕ} {o p : Cursor} → verdict_of trace area ≡ refused_at x n → number ≡ number_of x →
+      Puts (refusal_line number n) o p → Puts (report_of trace area) o p
+  refusal_put e k q = rw (refused_report e, ← k) q
 
   -- the listing is put, with the finding lines as they are read off the area
-  pub listing_put : {events fences findings : ℕ} {next : List ℕ} (o : Out) {p : Out} →
+  pub listing_put : {events fences findings : ℕ} {next : List ℕ} {o p : Cursor} →
       verdict_of trace area ≡ totals events fences findings → next ≡ area_after trace area →
-      p ≡ put (head_line events (lines_in trace) ++ lines_from 0 events next ++ foot_line findings) o → p ≡ put (report_of trace area) o
+      Puts (head_line events (lines_in trace) ++ lines_from 0 events next ++ foot_line findings) o p → Puts (report_of trace area) o p
   unfolding report_of
-  listing_put {events} {next = next} o e a q =
+  listing_put {events} {next = next} e a q =
       let t = the_totals e in
       let same : lines_from 0 events next ≡ finding_lines 1 (events_in trace) (answers_of trace) =
       rw (t.counted, a) (area_lines trace area t.passes) in
-      q ∙ (rw (e, same, t.counted, t.found))
+      rw e (rw (same, t.counted, t.found) at q)

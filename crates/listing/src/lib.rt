@@ -4,47 +4,36 @@
 ghost use Rattle.std.specs.Prelude.{◌≡◌, ◌++◌, ◌≤◌, length, take, drop};
 ghost use Rattle.trace.specs.Records.{lines_in};
 ghost use Rattle.verdict.specs.Verdict.{area_after};
-ghost use Rattle.text.specs.Text.{out, put};
+ghost use Rattle.text.specs.Cursor.{Puts};
 ghost use Rattle.lines.specs.Lines.{head_line, foot_line};
 ghost use Rattle.finding_lines.specs.Area.{lines_from};
 ghost use Rattle.listing.specs.Report.{report_of};
 
-use event::{Totals, TraceRefusal, numbers};
+use event::numbers;
+use text::Cursor;
 use trailer::opening;
 
 // No report is longer: a head of 41 bytes, 5,460 lines of 80 and a foot of 15, were all numbers of ten digits.
 pub const LONGEST: usize = 436856;
 
-// Puts the listing of an accepted trace, whose findings are in the area, at the start of the text.
-fn put_listing(text: &mut [u8], trace: &[u8], area: &[u8], events: u16, findings: u16) -> usize
-    ensures { out text.new result ≡
-        put (head_line events (lines_in trace.now) ++ lines_from 0 events area.now ++ foot_line findings) (out text.old 0) }
+// Puts the listing of an accepted trace, whose findings are in the area.
+fn put_listing(text: &mut Cursor<'_>, trace: &[u8], area: &[u8], events: u16, findings: u16)
+    ensures { Puts (head_line events (lines_in trace.now) ++ lines_from 0 events area.now ++ foot_line findings) text.old text.new }
 {
     let trailer = opening::trailer(trace);
-    let a = lines::head(text, 0, events, trailer.lines);
-    let b = finding_lines::findings(text, a, area, events);
-    lines::foot(text, b, findings)
+    lines::head(text, events, trailer.lines);
+    finding_lines::findings(text, area, events);
+    lines::foot(text, findings);
 }
 
-// Judges a trace into an area and puts what is to be printed for it at the start of the text, or as much as there is room for.
-fn put_report(trace: &[u8], area: &mut [u8], text: &mut [u8]) -> usize
+// Judges a trace into an area and puts what is to be printed for it, or as much as there is room for.
+fn put_report(trace: &[u8], area: &mut [u8], text: &mut Cursor<'_>)
     ensures area_after { area.new ≡ area_after trace.now area.old }
-    ensures result_after { out text.new result ≡ put (report_of trace.now area.old) (out text.old 0) }
+    ensures text_after { Puts (report_of trace.now area.old) text.old text.new }
 {
     match judge::judge(trace, area) {
-        Err(
-            TraceRefusal {
-                refusal,
-                at: record,
-            },
-        ) => lines::refusal(text, 0, numbers::number(refusal), record),
-        Ok(
-            Totals {
-                events,
-                fences: _,
-                findings,
-            },
-        ) => put_listing(text, trace, area, events, findings),
+        Err(r) => lines::refusal(text, numbers::number(r.refusal), r.at),
+        Ok(t) => put_listing(text, trace, area, t.events, t.findings),
     }
 }
 
@@ -56,5 +45,7 @@ pub fn report(trace: &[u8], area: &mut [u8], text: &mut [u8; LONGEST]) -> usize
     ensures text_after { take result text.new ≡ report_of trace.now area.old }
     ensures text_unchanged { drop result text.new ≡ drop result text.old }
 {
-    put_report(trace, area, text)
+    let mut printed = Cursor::new(text, 0);
+    put_report(trace, area, &mut printed);
+    printed.place()
 }

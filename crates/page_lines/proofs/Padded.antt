@@ -1,43 +1,32 @@
--- The name of a finding and the words of a foot, put into blanks.
-use mathlib.Core.Path.{◌≡◌, refl, sym, ap, ◌∙◌}
+-- The name of a finding in its field, and the words of a foot, put into blanks.
+use mathlib.Core.Path.{◌≡◌, ap, ◌∙◌}
 use mathlib.Core.List.{List, ◌++◌}
-use Prim.Native.Nat.{ℕ, ◌≤◌}
+use Prim.Native.Nat.{ℕ, ◌-◌, ◌≤◌}
 use native.Mathlib.Omega.{arith}
 use lib.ListN.{length, length-append}
 use Rattle.text.specs.Text.{ascii, decimal, Out, out, put}
 use Rattle.text.specs.Field.{blanks, padded}
+use Rattle.text.specs.Cursor.{Puts}
+use Rattle.text.specs.declared.Cursor.{Cursor}
 use Rattle.text.proofs.Decimal.{decimal_length}
-use Rattle.text.proofs.Puts.{put_append, two}
+use Rattle.text.proofs.Puts.{◌then◌}
 use Rattle.text.proofs.Fields.{padded_put}
-use Rattle.finding_lines.specs.Lines.{name_of}
-use Rattle.finding_lines.proofs.Names.{name_size}
 use Rattle.page_lines.specs.Lines.{foot}
 
--- two blanks put at the start of blanks change nothing
-two_blanks : put (ascii "  ") (out (blanks 16) 0) ≡ out (blanks 16) 2
-unfolding put
-two_blanks = refl
-
--- so a name put behind them is in its field
-pub name_put : (kind : ℕ) (text : List ℕ) (at : ℕ) {field : List ℕ} {n : ℕ} {q : Out} → out field n ≡ put (name_of kind) (out (blanks 16) 2) →
-    q ≡ put field (out text at) → q ≡ put (padded 16 (ascii "  " ++ name_of kind)) (out text at)
-name_put kind text at {field} e f =
-    let name = ascii "  " ++ name_of kind in
-    let all : put (name_of kind) (out (blanks 16) 2) ≡ put name (out (blanks 16) 0) =
-    ap (put (name_of kind)) (sym two_blanks) ∙ sym (put_append (ascii "  ") (name_of kind) (out (blanks 16) 0)) in
-    let filled : field ≡ padded 16 name =
-    ap (λ (o : Out). o.bytes) (e ∙ all) ∙ padded_put 16 name (omega (arith, name_size kind)) in
-    rw (← filled) f
+-- two blanks and then a word in a field of 14 are the field of 16
+pub behind_two : (word : List ℕ) {o p q : Cursor} → Puts (ascii "  ") o p → Puts (padded 14 word) p q → Puts (padded 16 (ascii "  " ++ word)) o q
+behind_two word e f = let free : 16 - length (ascii "  " ++ word) ≡ 14 - length word = omega arith in rw free (e then f)
 
 -- the words of a foot fit into a line
 pub foot_words : (page pages : ℕ) → length (ascii "page " ++ decimal page ++ ascii " of " ++ decimal pages) ≤ 61
 foot_words page pages = simp length-append (omega (arith, decimal_length page, decimal_length pages))
 
-pub foot_put : (page pages : ℕ) (text : List ℕ) (at : ℕ) {line : List ℕ} {n : ℕ} {p q : Out} →
+-- so the line of blanks that they were put into is a foot
+pub foot_put : (page pages : ℕ) {line : List ℕ} {n : ℕ} {o p q : Cursor} →
     out line n ≡ put (ascii "page " ++ decimal page ++ ascii " of " ++ decimal pages) (out (blanks 61) 0) →
-    p ≡ put line (out text at) → q ≡ put (ascii "\n") p → q ≡ put (foot page pages) (out text at)
+    Puts line o p → Puts (ascii "\n") p q → Puts (foot page pages) o q
 unfolding foot
-foot_put page pages text at {line} {p = p} e f g =
+foot_put page pages {line} e f g =
     let words = ascii "page " ++ decimal page ++ ascii " of " ++ decimal pages in
     let filled : line ≡ padded 61 words = ap (λ (o : Out). o.bytes) e ∙ padded_put 61 words (foot_words page pages) in
-    two (padded 61 words) (ascii "\n") (out text at) {p = p} (rw (← filled) f) g
+    (rw filled at f) then g

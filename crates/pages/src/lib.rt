@@ -9,6 +9,7 @@ ghost use Rattle.pages.specs.Limits.{bad_length, damage_limits};
 ghost use Rattle.pages.specs.Paged.{unless_damaged, in_room, paged_of, page_area_after};
 
 use event::Refusal;
+use finding_lines::Shown;
 
 // A refusal, and the position of the finding that it is about, from 1, or 0 for the findings area as a whole and for the page area.
 #[derive(Clone, Copy)]
@@ -32,25 +33,16 @@ fn damage(findings: &[u8], before: u16) -> Result<(), Refusal>
 }
 
 // The refusal of the first damaged finding of so many; the answer given, where none is damaged.
-fn unless_damaged(
-    findings: &[u8],
-    count: u16,
-    answer: Result<u32, PageRefusal>,
-) -> Result<u32, PageRefusal>
+fn unless_damaged(findings: &[u8], count: u16, answer: Result<u32, PageRefusal>) -> Result<u32, PageRefusal>
     ensures { result ≡ unless_damaged 0 count findings.now answer }
 {
-    let mut i: u16 = 0;
-    while i < count {
-        match damage(findings, i) {
-            Ok(()) => {}
-            Err(refusal) => {
-                return Err(PageRefusal {
-                    refusal,
-                    position: i + 1,
-                })
-            }
+    for before in 0..count {
+        if let Err(refusal) = damage(findings, before) {
+            return Err(PageRefusal {
+                refusal,
+                position: before + 1,
+            });
         }
-        i += 1;
     }
     answer
 }
@@ -59,15 +51,7 @@ fn unless_damaged(
 fn count_shown(findings: &[u8], count: u16) -> u16
     ensures { result ≡ length (rows_from 0 count findings.now) }
 {
-    let mut total: u16 = 0;
-    let mut i: u16 = 0;
-    while i < count {
-        let row = finding_lines::row_at(findings, i);
-        let fields = row.fields;
-        total += page_layout::shown(fields.kind) as u16;
-        i += 1;
-    }
-    total
+    Shown::new(findings, count).count() as u16
 }
 
 // The length of the pages of so many findings: each page has a heading and a foot, and a line has 62 bytes.
@@ -125,19 +109,9 @@ pub fn pages(findings: &[u8], area: &mut [u8]) -> Result<u32, PageRefusal>
     ensures value { result ≡ paged_of findings.now (length area.old) }
     ensures area_after { area.new ≡ page_area_after findings.now area.old }
 {
-    let answer = checked(findings, area.len());
-    match answer {
-        Err(
-            PageRefusal {
-                refusal: _,
-                position: _,
-            },
-        ) => {}
-        Ok(_) => {
-            let count = findings_in(findings);
-            let shown = count_shown(findings, count);
-            page_layout::put_pages(area, findings, count, page_layout::page_count(shown));
-        }
-    }
-    answer
+    let length = checked(findings, area.len())?;
+    let count = findings_in(findings);
+    let shown = count_shown(findings, count);
+    page_layout::put_pages(area, findings, count, page_layout::page_count(shown));
+    Ok(length)
 }

@@ -7,7 +7,9 @@ use native.Mathlib.Omega.{arith}
 use lib.ListN.{length, length-append}
 use Rattle.event.specs.declared.Refusal.{Refusal}
 use Rattle.event.specs.Numbers.{number_of}
-use Rattle.text.specs.Text.{Out, out, put}
+use Rattle.text.specs.Text.{out, put}
+use Rattle.text.specs.Cursor.{Puts}
+use Rattle.text.specs.declared.Cursor.{Cursor}
 use Rattle.text.proofs.Decimal.{decimal_length}
 use Rattle.text.proofs.Filled.{Whole, whole_put}
 use Rattle.lines.specs.Lines.{refusal_line}
@@ -19,13 +21,13 @@ use Rattle.exposure.specs.Answers.{mean}
 use Rattle.event.specs.Answers.{refused_at}
 
 -- the refusal is put, or the mean
-module _ (trace : List ℕ) (o : Out) {p : Out} {answer : TraceExposure} (answers : answer ≡ trace_exposure_of trace) where
-  pub refusal_put : {x : Refusal} {n number : ℕ} → answer ≡ refused_at x n → number ≡ number_of x → p ≡ put (refusal_line number n) o → p ≡ put (report_of trace) o
+module _ (trace : List ℕ) {o p : Cursor} {answer : TraceExposure} (answers : answer ≡ trace_exposure_of trace) where
+  pub refusal_put : {x : Refusal} {n number : ℕ} → answer ≡ refused_at x n → number ≡ number_of x → Puts (refusal_line number n) o p → Puts (report_of trace) o p
   unfolding report_of
   refusal_put e k l = rw (← answers, e, ← k) l
 
-  pub mean_put : {quotient remainder divisor : ℕ} → answer ≡ mean quotient remainder divisor → p ≡ put (exposure_line quotient remainder divisor) o →
-      p ≡ put (report_of trace) o
+  pub mean_put : {quotient remainder divisor : ℕ} → answer ≡ mean quotient remainder divisor → Puts (exposure_line quotient remainder divisor) o p →
+      Puts (report_of trace) o p
   unfolding report_of
   mean_put e l = rw (← answers, e) l
 

@@ -8,7 +8,9 @@ use lib.ListN.{length, length-append}
 use Rattle.event.specs.declared.NamedInterval.{NamedInterval}
 use Rattle.event.specs.declared.Refusal.{Refusal}
 use Rattle.event.specs.Numbers.{number_of}
-use Rattle.text.specs.Text.{ascii, decimal, Out, out, put}
+use Rattle.text.specs.Text.{ascii, decimal, out, put}
+use Rattle.text.specs.Cursor.{Puts}
+use Rattle.text.specs.declared.Cursor.{Cursor}
 use Rattle.text.proofs.Decimal.{decimal_length}
 use Rattle.text.proofs.Filled.{Whole, whole_put}
 use Rattle.lines.specs.Lines.{refusal_line}
@@ -28,14 +30,13 @@ module _ (input : List ℕ) {byte : ℕ} (number : byte ≡ byte_in input) {trac
   unfolding report_of
   same_report = rw (answers, rest, number)
 
-  pub refusal_put : (o : Out) {p : Out} {x : Refusal} {n code : ℕ} → answer ≡ refused_at x n → code ≡ number_of x → p ≡ put (refusal_line code n) o →
-      p ≡ put (report_of input) o
-  refusal_put o e k l = rw (← same_report, e, ← k) l
+  pub refusal_put : {o p : Cursor} {x : Refusal} {n code : ℕ} → answer ≡ refused_at x n → code ≡ number_of x → Puts (refusal_line code n) o p →
+      Puts (report_of input) o p
+  refusal_put e k l = rw (← same_report, e, ← k) l
 
-  pub known_put : (o : Out) {p : Out} {i : NamedInterval} {s : Sites} → answer ≡ sited i s →
-      p ≡ put (ascii "byte " ++ decimal byte ++ ascii " " ++ interval_text i s) o →
-      p ≡ put (report_of input) o
-  known_put o e l = rw (← same_report, e) l
+  pub known_put : {o p : Cursor} {i : NamedInterval} {s : Sites} → answer ≡ sited i s →
+      Puts (ascii "byte " ++ decimal byte ++ ascii " " ++ interval_text i s) o p → Puts (report_of input) o p
+  known_put e l = rw (← same_report, e) l
 
 -- no report is longer: words and numbers of ten digits at most
 abbrev longest : ℕ

@@ -1,65 +1,86 @@
-// Words and numbers, put into a slice. Each function answers the place after what it put; where the slice is full, no more is put.
+// Words and numbers, put into a slice one after another; where the slice is full, no more is put.
 #![tactic(auto)]
 
-ghost use Rattle.std.specs.Prelude.{◌≡◌, ◌-◌};
-ghost use Rattle.text.specs.Text.{decimal, out, put_byte};
-ghost use Rattle.text.specs.Text.{put as Text·put};
-ghost use Rattle.text.specs.Field.{blanks as Field·blanks, right as Field·right};
+ghost use Rattle.std.specs.Prelude.{◌≡◌, ◌-◌, [], ◌∷◌};
+ghost use Rattle.text.specs.Text.{decimal, out};
+ghost use Rattle.text.specs.Field.{blanks as Field·blanks, right as Field·right, padded};
 
-// One byte at a place.
-pub fn put_byte(text: &mut [u8], at: usize, byte: u8) -> usize
-    ensures { out text.new result ≡ put_byte byte (out text.old at) }
-{
-    if at < text.len() {
-        text[at] = byte;
-        return at + 1;
-    }
-    at
+// A slice that text is put into, and the place where the next byte goes.
+#[derive(Drop)]
+pub struct Cursor<'a> {
+    bytes: &'a mut [u8],
+    next: usize,
 }
 
-// The bytes of a word from a place on.
-pub fn put(text: &mut [u8], at: usize, word: &[u8]) -> usize
-    ensures { out text.new result ≡ Text·put word.now (out text.old at) }
-{
-    let mut next = at;
-    let mut i = 0;
-    while i < word.len() {
-        next = put_byte(text, next, word[i]);
-        i += 1;
-    }
-    next
-}
+impl<'a> Cursor<'a> {
+    ghost use Rattle.text.specs.Cursor.{Puts, has_put};
 
-// A number in decimal from a place on.
-pub fn number(text: &mut [u8], at: usize, n: u32) -> usize
-    ensures { out text.new result ≡ Text·put (decimal n) (out text.old at) }
-{
-    if n < 10 {
-        return put_byte(text, at, 48 + (n as u8));
+    // From a place of a slice on.
+    pub fn new(bytes: &'a mut [u8], next: usize) -> Cursor<'a>
+        ensures same_reference { result.bytes.ghost_name ≡ bytes.entry.ghost_name }
+        ensures value { has_put result ≡ out bytes.old next }
+    {
+        Cursor { bytes, next }
     }
-    let next = number(text, at, n / 10);
-    put_byte(text, next, 48 + ((n % 10) as u8))
-}
 
-// Blanks from a place on, until a field of this width is full, of which so many columns are used.
-pub fn blanks(text: &mut [u8], at: usize, used: usize, width: usize) -> usize
-    ensures { out text.new result ≡ Text·put (Field·blanks (width - used)) (out text.old at) }
-{
-    let mut next = at;
-    let mut i = used;
-    while i < width {
-        next = put_byte(text, next, 32);
-        i += 1;
+    // The place after what was put.
+    pub fn place(&self) -> usize
+        ensures { result ≡ self.now.next }
+    {
+        self.next
     }
-    next
-}
 
-// A number in decimal from a place on, right in a field of this width.
-pub fn right(text: &mut [u8], at: usize, width: usize, n: u32) -> usize
-    ensures { out text.new result ≡ Text·put (Field·right width (decimal n)) (out text.old at) }
-{
-    let mut word = [0u8; 10];
-    let len = number(&mut word, 0, n);
-    let next = blanks(text, at, len, width);
-    put(text, next, &word[..len])
+    // One byte.
+    pub fn put_byte(&mut self, byte: u8)
+        ensures { Puts (byte ∷ []) self.old self.new }
+    {
+        if self.next < self.bytes.len() {
+            self.bytes[self.next] = byte;
+            self.next += 1;
+        }
+    }
+
+    // The bytes of a word.
+    pub fn put(&mut self, word: &[u8])
+        ensures { Puts word.now self.old self.new }
+    {
+        for byte in word {
+            self.put_byte(*byte);
+        }
+    }
+
+    // So many blanks.
+    pub fn blanks(&mut self, count: usize)
+        ensures { Puts (Field·blanks count) self.old self.new }
+    {
+        for _ in 0..count {
+            self.put_byte(b' ');
+        }
+    }
+
+    // A number in decimal.
+    pub fn number(&mut self, n: u32)
+        ensures { Puts (decimal n) self.old self.new }
+    {
+        let mut buffer = itoa::Buffer::new();
+        self.put(buffer.format(n).as_bytes());
+    }
+
+    // A number in decimal, right in a field of this width.
+    pub fn right(&mut self, width: usize, n: u32)
+        ensures { Puts (Field·right width (decimal n)) self.old self.new }
+    {
+        let mut buffer = itoa::Buffer::new();
+        let digits = buffer.format(n).as_bytes();
+        self.blanks(width.saturating_sub(digits.len()));
+        self.put(digits);
+    }
+
+    // A word, padded in a field of this width.
+    pub fn left(&mut self, width: usize, word: &[u8])
+        ensures { Puts (padded width word.now) self.old self.new }
+    {
+        self.put(word);
+        self.blanks(width.saturating_sub(word.len()));
+    }
 }

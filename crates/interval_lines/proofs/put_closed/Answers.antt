@@ -1,9 +1,10 @@
--- `interval_lines::put_closed` meets its contract: its parts are put one after another.
-use Rattle.text.specs.Text.{out}
-use Rattle.interval_lines.proofs.Put.{closed_put}
+-- The parts are put one after another.
+use Rattle.text.proofs.Puts.{◌then◌}
+use Rattle.interval_lines.specs.Lines.{closed_line}
 use Rattle.interval_lines.proofs.put_closed.Goals as goal
 
 pub returns : goal.returns
+unfolding closed_line
 returns c =
-    let k = c.args in
-    closed_put k.opened k.closed k.store k.back k.fence (out k.text.now k.at) c.phrase-a.ensures c.number-b.ensures c.phrase.ensures
+    c.put.ensures then c.number.ensures then c.put-2.ensures then c.number-2.ensures then c.put-3.ensures then c.number-3.ensures then
+    c.put-4.ensures then c.number-4.ensures then c.put-5.ensures then c.number-5.ensures then c.put-6.ensures

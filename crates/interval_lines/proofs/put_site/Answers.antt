@@ -1,11 +1,11 @@
--- `interval_lines::put_site` meets its contract: an event 0 has no line.
-use native.Mathlib.Omega.{arith}
-use Rattle.text.specs.Text.{out}
-use Rattle.interval_lines.proofs.Put.{none_put, site_put}
+-- An event 0 has no line.
+use Rattle.std.proofs.Common.{arith}
+use Rattle.text.proofs.Puts.{nothing}
+use Rattle.interval_lines.proofs.Sites.{site_put, none_put}
 use Rattle.interval_lines.proofs.put_site.Goals as goal
 
-pub returns-then-event-eq0 : goal.returns-then-event-eq0
-returns-then-event-eq0 c = let k = c.args in none_put k.site (out k.text.now k.at) c.if-event-eq0.true
+pub returns-then-event-ne0 : goal.returns-then-event-ne0
+returns-then-event-ne0 c = site_put c.args.event c.args.site (omega arith) c.phrase.ensures
 
-pub returns : goal.returns
-returns c = let k = c.args in site_put k.event k.site (out k.text.now k.at) (omega arith) c.phrase.ensures
+pub returns-else-event-ne0 : goal.returns-else-event-ne0
+returns-else-event-ne0 c = none_put c.args.event c.args.site (omega arith) (nothing c.args.text.now)

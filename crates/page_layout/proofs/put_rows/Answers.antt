@@ -1,31 +1,29 @@
--- What is left for the page leads to what all of it does.
-use Rattle.std.proofs.Common.{sym, ◌∙◌, arith}
-use Rattle.text.specs.Text.{out}
-use Rattle.page_layout.proofs.Rows.{page_next, left_next, none_left, none_after, page_full}
+-- One more line is put, or there are no more findings.
+use Rattle.std.proofs.Common.{◌∙◌, sym, refl, arith}
+use Rattle.text.proofs.Puts.{nothing, ◌then◌}
+use Rattle.finding_lines.specs.Shown.{rows_left}
+use Rattle.page_layout.specs.Pages.{row_lines}
+use Rattle.page_layout.proofs.Rows.{lines_more, drop_more, all_taken, all_dropped}
 use Rattle.page_layout.proofs.put_rows.Goals as goal
 
-pub loop-i-preserved : goal.loop-i-preserved
-loop-i-preserved c =
-    let k = c.args in
-    let x = c.loop-i in
-    let room = c.if-free-gt0.true in (
-      c.put_row-next.auto.text ∙ x.invariant.0,
-      page_next k.findings.now x.i k.count (omega arith) c.row_at-row.ensures c.shown-free.ensures x.free (out x.text x.next) room
-          c.put_row-next.ensures ∙ x.invariant.1,
-      left_next k.findings.now x.i k.count (omega arith) c.row_at-row.ensures c.shown-free.ensures x.free room ∙ x.invariant.2,
-    )
+pub loop-init : goal.loop-init
+unfolding row_lines
+loop-init c = record { lines = nothing c.args.text.now; rest = refl }
 
-pub returns-else-free-gt0-clause-next_after : goal.returns-else-free-gt0-clause-next_after
-returns-else-free-gt0-clause-next_after c =
-    let x = c.loop-i in
-    sym (page_full c.args.findings.now x.i c.args.count x.free (out x.text x.next) c.if-free-gt0.false) ∙ x.invariant.1
+pub returns-in-None-clause-lines : goal.returns-in-None-clause-lines
+returns-in-None-clause-lines c =
+    let w = c.loop.invariant in
+    rw (← all_taken c.loop.counter (rows_left c.args.rows.now) 58 (sym w.rest ∙ c.in-None.ensures.steps.0) (omega arith)) w.lines
 
-pub returns-after-loop-i-clause-next_after : goal.returns-after-loop-i-clause-next_after
-returns-after-loop-i-clause-next_after c =
-    let x = c.loop-i in
-    sym (none_left c.args.findings.now x.i c.args.count x.free (out x.text x.next) (omega arith)) ∙ x.invariant.1
+pub returns-in-None-clause-rest : goal.returns-in-None-clause-rest
+returns-in-None-clause-rest c =
+    let none = c.in-None.ensures.steps in
+    none.1 ∙ sym (all_dropped c.loop.counter (rows_left c.args.rows.now) 58 (sym c.loop.invariant.rest ∙ none.0) (omega arith))
 
-pub returns-after-loop-i-clause-findings_value : goal.returns-after-loop-i-clause-findings_value
-returns-after-loop-i-clause-findings_value c =
-    let x = c.loop-i in
-    none_after c.args.findings.now x.i c.args.count x.free (omega arith) ∙ x.invariant.2
+pub loop-preserved : goal.loop-preserved
+loop-preserved c =
+    let w = c.loop.invariant in
+    let n = c.loop.counter in
+    let rows = rows_left c.args.rows.now in
+    let first = sym w.rest ∙ c.in-Some.ensures.steps in
+    record { lines = rw (lines_more n rows first) (w.lines then c.row.ensures); rest = sym (drop_more n rows first) }

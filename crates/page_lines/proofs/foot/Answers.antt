@@ -1,13 +1,11 @@
 -- The words are put into a line of blanks first, and then the line and its line feed.
-use Rattle.text.specs.Text.{ascii, decimal, out}
-use Rattle.text.specs.Field.{blanks}
-use Rattle.text.proofs.Puts.{four}
+use Rattle.std.proofs.Common.{refl, rules}
+use Rattle.text.proofs.Puts.{◌then◌, put_back}
 use Rattle.page_lines.proofs.Padded.{foot_put}
 use Rattle.page_lines.proofs.foot.Goals as goal
 
 pub returns : goal.returns
 returns c =
-    let k = c.args in
-    let words = four (ascii "page ") (decimal k.page) (ascii " of ") (decimal k.pages) (out (blanks 61) 0)
-    c.put-a.ensures c.number-b.ensures c.put-c.ensures c.number.ensures in
-    foot_put k.page k.pages k.text.now k.at words c.put-d.ensures c.put.ensures
+    let words = c.put.ensures then c.number.ensures then c.put-2.ensures then c.number-2.ensures in
+    let start = c.new-words.ensures in
+    foot_put c.args.page c.args.pages (put_back start.same_reference start.value words (search rules) refl) c.put-3.ensures c.put-4.ensures

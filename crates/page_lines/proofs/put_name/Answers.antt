@@ -1,6 +1,6 @@
--- The name put behind two of the blanks is in its field.
-use Rattle.page_lines.proofs.Padded.{name_put}
+-- The name behind two blanks, in what is left of the field.
+use Rattle.page_lines.proofs.Padded.{behind_two}
 use Rattle.page_lines.proofs.put_name.Goals as goal
 
 pub returns : goal.returns
-returns c = let k = c.args in name_put k.kind k.text.now k.at c.name.ensures c.put.ensures
+returns c = rw (← c.name.ensures) (behind_two c.name.result.now c.put.ensures c.left.ensures)

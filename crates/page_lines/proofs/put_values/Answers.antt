@@ -1,13 +1,8 @@
 -- The parts are put one after another.
-use Rattle.text.specs.Text.{decimal, out}
-use Rattle.text.specs.Field.{right}
-use Rattle.text.proofs.Puts.{four}
+use Rattle.text.proofs.Puts.{◌then◌}
 use Rattle.page_lines.specs.Lines.{values}
 use Rattle.page_lines.proofs.put_values.Goals as goal
 
 pub returns : goal.returns
 unfolding values
-returns c =
-    let k = c.args in
-    four (right 7 (decimal k.f.lost)) (right 7 (decimal k.f.kept)) (right 7 (decimal k.f.moment)) (right 7 (decimal k.f.store))
-    (out k.text.now k.at) c.right-a.ensures c.right-b.ensures c.right-c.ensures c.right.ensures
+returns c = c.right.ensures then c.right-2.ensures then c.right-3.ensures then c.right-4.ensures

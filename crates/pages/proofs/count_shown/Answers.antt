@@ -1,18 +1,16 @@
--- Those that are counted and those that are left are all.
-use Rattle.std.proofs.Common.{ap, ◌∙◌, length, arith}
-use Rattle.page_layout.proofs.Rows.{rows_done, count_next, at_most_one}
+-- No more are shown than there are.
+use Rattle.std.proofs.Common.{◌≡◌, ◌≤◌, ℕ, List, arith, length, inl}
+use Rattle.finding_lines.specs.declared.Shown.{Shown}
+use Rattle.finding_lines.specs.Rows.{rows_from}
+use Rattle.finding_lines.specs.Shown.{rows_left}
+use Rattle.finding_lines.proofs.Rows.{rows_few}
 use Rattle.pages.proofs.count_shown.Goals as goal
 
-pub loop-i-preserved : goal.loop-i-preserved
-loop-i-preserved c =
-    let k = c.args in
-    let l = c.loop-i in
-    let one = at_most_one k.findings.now l.i k.count (omega arith) c.row_at-row.ensures c.shown.ensures in
-    let next = count_next k.findings.now l.i k.count (omega arith) c.row_at-row.ensures c.shown.ensures l.total in
-    (omega (arith, one), omega arith, next ∙ l.invariant.2)
+few : (s : Shown) (count : ℕ) (area : List ℕ) → rows_left s ≡ rows_from 0 count area → length (rows_left s) ≤ count
+few s count area e = rw e (rows_few 0 count area)
 
-pub returns : goal.returns
-returns c =
-    let k = c.args in
-    let l = c.loop-i in
-    omega (arith, l.invariant.2, ap length (rows_done k.findings.now l.i k.count (omega arith)))
+pub count-requires-clause-fits : goal.count-requires-clause-fits
+count-requires-clause-fits c = inl (omega (arith, few c.new.result c.args.count c.args.findings.now c.new.ensures))
+
+pub overflow_cast-result : goal.overflow_cast-result
+overflow_cast-result c = omega (arith, few c.new.result c.args.count c.args.findings.now c.new.ensures, c.count.ensures.bound)

@@ -6,17 +6,17 @@ use Rattle.pages.proofs.unless_damaged.Goals as goal
 pub returns-in-Err : goal.returns-in-Err
 returns-in-Err c =
     let k = c.args in
-    let l = c.loop-i in
-    one_damaged k.findings.now l.i k.count k.answer (omega arith) (sym c.in-Err.ensures) ∙ l.invariant.1
+    let l = c.loop-before in
+    one_damaged k.findings.now l.before k.count k.answer (omega arith) (sym c.in-Err.ensures) ∙ l.invariant
 
-pub loop-i-preserved : goal.loop-i-preserved
-loop-i-preserved c =
+pub loop-before-preserved : goal.loop-before-preserved
+loop-before-preserved c =
     let k = c.args in
-    let l = c.loop-i in
-    (omega arith, not_damaged k.findings.now l.i k.count k.answer (omega arith) (sym c.in-Ok.ensures) ∙ l.invariant.1)
+    let l = c.loop-before in
+    not_damaged k.findings.now l.before k.count k.answer (omega arith) (sym c.in-Ok.ensures) ∙ l.invariant
 
 pub returns : goal.returns
 returns c =
     let k = c.args in
-    let l = c.loop-i in
-    none_damaged k.findings.now l.i k.count k.answer (omega arith) ∙ l.invariant.1
+    let l = c.loop-before in
+    none_damaged k.findings.now l.before k.count k.answer (omega arith) ∙ l.invariant
