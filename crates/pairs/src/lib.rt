@@ -53,7 +53,13 @@ impl<'a> Places for Losable<'a> {
         let lost = b as u16;
         let one_line = self.kept.line == lost / 64;
         let one_word = self.kept.word == lost / 8;
-        is_broken(self.kept.store, self.stored[b], one_line, one_word, self.fenced[b])
+        is_broken(
+            self.kept.store,
+            self.stored[b],
+            one_line,
+            one_word,
+            self.fenced[b],
+        )
     }
 }
 

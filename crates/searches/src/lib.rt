@@ -136,7 +136,11 @@ pub fn first_byte(test: Test, xs: &[u16; 4096], ys: &[u16; 4096], a: Range) -> O
     ensures { result ≡ searched (lowest_in (passing test xs.now ys.now) (in_tables a)) }
 {
     let part = tables::in_tables(a);
-    first(&Entries { test, xs, ys }, part.address as usize, part.length as usize)
+    first(
+        &Entries { test, xs, ys },
+        part.address as usize,
+        part.length as usize,
+    )
 }
 
 // The end of the line of a byte, or of what is searched, whichever comes first.
