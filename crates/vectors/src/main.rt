@@ -149,9 +149,7 @@ fn print_answers<W: Write>(out: &mut W, answers: &[u32; 19]) {
 fn print_kinds<W: Write>(out: &mut W, kinds: &[u32; 9]) {
     let mut i: u8 = 0;
     while i < 9 {
-        let mut word = [0u8; 16];
-        let n = finding_lines::name(&mut word, 0, i);
-        print_count(out, &word[..n], kinds[i as usize]);
+        print_count(out, finding_lines::name(i), kinds[i as usize]);
         i += 1;
     }
 }
