@@ -22,14 +22,7 @@ fn put_open(text: &mut Cursor<'_>, opened: u16, store: u16, back: u16)
 }
 
 // `closed 0 2 store 2 write-back 7 fence 8`
-fn put_closed(
-    text: &mut Cursor<'_>,
-    opened: u16,
-    closed: u16,
-    store: u16,
-    back: u16,
-    fence: u16,
-)
+fn put_closed(text: &mut Cursor<'_>, opened: u16, closed: u16, store: u16, back: u16, fence: u16)
     ensures { Puts (closed_line opened closed store back fence) text.old text.new }
 {
     text.put(b"closed ");
@@ -50,14 +43,7 @@ fn put_site(text: &mut Cursor<'_>, event: u16, site: u16)
     ensures { Puts (site_line event site) text.old text.new }
 {
     if event != 0 {
-        lines::phrase(
-            text,
-            b"event ",
-            event as u32,
-            b" site ",
-            site as u32,
-            b"\n",
-        );
+        lines::phrase(text, b"event ", event as u32, b" site ", site as u32, b"\n");
     }
 }
 

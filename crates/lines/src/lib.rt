@@ -9,14 +9,7 @@ ghost use Rattle.lines.specs.Lines.{head_line, foot_line, refusal_line};
 use text::Cursor;
 
 // A number between two words, and another between the second and a third.
-pub fn phrase(
-    text: &mut Cursor<'_>,
-    first: &[u8],
-    m: u32,
-    second: &[u8],
-    n: u32,
-    third: &[u8],
-)
+pub fn phrase(text: &mut Cursor<'_>, first: &[u8], m: u32, second: &[u8], n: u32, third: &[u8])
     ensures { Puts (first.now ++ decimal m ++ second.now ++ decimal n ++ third.now) text.old text.new }
 {
     text.put(first);

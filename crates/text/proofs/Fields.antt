@@ -1,14 +1,13 @@
 -- Text in a field of so many columns.
-use mathlib.Core.Path.{◌≡◌, sym, ap, ◌∙◌}
+use mathlib.Core.Path.{◌≡◌}
 use mathlib.Core.List.{List}
-use Prim.Native.Nat.{ℕ, zero, suc, ◌+◌, ◌-◌, ◌≤◌, ◌<◌}
+use Prim.Native.Nat.{ℕ, zero, suc, ◌-◌, ◌≤◌}
 use native.Mathlib.Nat.{sub-zero, zero-sub}
 use native.Mathlib.Omega.{arith}
-use lib.ListN.{length, take, drop, length-append, length-take, length-replicate}
+use lib.ListN.{length, drop, length-append, length-replicate}
 use lib.Seq.{take_all}
-use Rattle.text.specs.Text.{Out, out, put_byte, put, decimal}
+use Rattle.text.specs.Text.{out, put}
 use Rattle.text.specs.Field.{blanks, right, padded}
-use Rattle.text.proofs.Decimal.{decimal_length}
 use Rattle.text.proofs.Filled.{filled}
 
 -- a text that is not longer than its field fills it

@@ -122,9 +122,7 @@ fn print_answers<W: Write>(out: &mut W, answers: &[u32; 19]) {
 // How many findings of each kind there were.
 fn print_kinds<W: Write>(out: &mut W, kinds: &[u32; 9]) {
     for (kind, n) in kinds.iter().enumerate() {
-        let mut word = [0u8; 16];
-        let len = finding_lines::name(&mut word, 0, kind as u8);
-        let _ = out.write_all(&word[..len]);
+        let _ = out.write_all(finding_lines::name(kind as u8));
         let _ = writeln!(out, " {n}");
     }
 }

@@ -1,7 +1,6 @@
 -- One more blank is put.
 use Rattle.std.proofs.Common.{ℕ, sym}
 use Rattle.std.proofs.lemmas.List.{replicate_more}
-use Rattle.text.specs.Cursor.{Puts}
 use Rattle.text.proofs.Puts.{nothing, ◌then◌}
 use Rattle.text.proofs.Cursor.blanks.Goals as goal
 

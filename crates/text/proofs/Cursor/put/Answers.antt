@@ -1,5 +1,5 @@
 -- One more byte is put.
-use Rattle.std.proofs.Common.{◌≡◌, List, take, ℕ, ◌+◌, arith, get_or, ◌++◌, ◌∷◌, [], length}
+use Rattle.std.proofs.Common.{arith}
 use Rattle.std.proofs.lemmas.List.{take_more}
 use Rattle.text.proofs.Puts.{nothing, ◌then◌}
 use Rattle.text.proofs.Cursor.put.Goals as goal
