@@ -43,15 +43,14 @@ pub fn finding_bytes(f: Finding, site: u16) -> [u8; 12]
     ensures { result ≡ finding_bytes f site }
 {
     let x = Fields::from(f);
-    let [lost_0, lost_1] = x.lost.to_le_bytes();
-    let [kept_0, kept_1] = x.kept.to_le_bytes();
-    let [moment_0, moment_1] = x.moment.to_le_bytes();
-    let [store_0, store_1] = x.store.to_le_bytes();
-    let [site_0, site_1] = site.to_le_bytes();
-    [
-        x.kind, 0, lost_0, lost_1, kept_0, kept_1, moment_0, moment_1, store_0, store_1, site_0,
-        site_1,
-    ]
+    let mut bytes = [0u8; 12];
+    bytes[0] = x.kind;
+    bytes[2..4].copy_from_slice(&x.lost.to_le_bytes());
+    bytes[4..6].copy_from_slice(&x.kept.to_le_bytes());
+    bytes[6..8].copy_from_slice(&x.moment.to_le_bytes());
+    bytes[8..10].copy_from_slice(&x.store.to_le_bytes());
+    bytes[10..].copy_from_slice(&site.to_le_bytes());
+    bytes
 }
 
 // The kind and the fields of the finding at a place; bytes past the end count as 0.

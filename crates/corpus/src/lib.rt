@@ -9,17 +9,6 @@ ghost use Rattle.corpus.specs.Tally.{counted, place_of, kinds_from, kinds_in};
 
 use event::{Totals, TraceRefusal, numbers};
 
-// Makes every byte of the area A5h.
-fn fill(area: &mut [u8])
-    ensures { area.new ≡ area_before (length area.old) }
-{
-    let mut i = 0;
-    while i < area.len() {
-        area[i] = 165;
-        i += 1;
-    }
-}
-
 // Whether the trace, judged into this area, leaves these bytes in it, and this text is printed for it.
 fn agrees(trace: &[u8], area: &mut [u8], after: &[u8], text: &[u8]) -> bool
     ensures tests { Tests result (Agrees trace.now area.old after.now text.now) }
@@ -37,8 +26,9 @@ fn count(counts: &mut [u32], i: u8)
     ensures { counts.new ≡ counted i counts.old }
 {
     let at = i as usize;
+    // stays: tried get_mut; of a slice that it lent from, the library's contract gives the length and no element.
     if at < counts.len() {
-        counts[at] = std::num::wrapping_add_u32(counts[at], 1);
+        counts[at] = counts[at].wrapping_add(1);
     }
 }
 
@@ -46,11 +36,9 @@ fn count(counts: &mut [u32], i: u8)
 fn count_kinds(kinds: &mut [u32], area: &[u8], events: u16)
     ensures { kinds.new ≡ kinds_from 0 events area.now kinds.old }
 {
-    let mut i: u16 = 0;
-    while i < events {
+    for i in 0..events {
         let kind = codec::byte_at(area, 12 * (i as usize));
         count(kinds, kind);
-        i += 1;
     }
 }
 
@@ -98,9 +86,9 @@ pub fn run(
         (area_after trace.now (area_before (length area.old)))
         kinds.old }
 {
-    fill(area);
+    area.fill(0xA5);
     let same = agrees(trace, area, after, text);
-    fill(area);
+    area.fill(0xA5);
     let answer = judge::judge(trace, area);
     tally(answer, area, answers, kinds);
     same

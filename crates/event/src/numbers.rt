@@ -5,6 +5,7 @@ ghost use Rattle.event.specs.Numbers.{kind_of, fields_with, fields_of, number_of
 use crate::{Event, Fields, Finding, Refusal};
 
 // An event's kind, 1 to 8.
+// stays: the new form is no plainer. Events carry ranges, so they have no number for `as u8`, and a From would be the same match.
 pub fn kind(e: Event) -> u8
     ensures { result ≡ kind_of e }
 {
@@ -73,6 +74,7 @@ impl From<Finding> for Fields {
 }
 
 // A refusal's number, 1 to 18 without 8.
+// stays: what may not change, a public function that docs/DECISIONS.md (113) names. Its numbers stand at the cases of Refusal.
 pub fn number(r: Refusal) -> u8
     ensures { result ≡ number_of r }
 {

@@ -1,11 +1,7 @@
 -- The kinds that are left lead to what all of them do.
-use Rattle.std.proofs.Common.{◌≡◌, ◌-◌, ◌≤◌}
+use Rattle.std.proofs.Common.{◌≡◌, ◌-◌}
 use Rattle.corpus.specs.Tally.{kinds_from}
 use Rattle.corpus.proofs.count_kinds.Given as goal
 
 abbrev pub invariant-loop-i : goal.invariant-loop-i
-invariant-loop-i l =
-    (l.i ≤ l.events) × (kinds_from l.i (l.events - l.i) l.area l.kinds ≡ kinds_from 0 l.events l.area l.initial.kinds)
-
-abbrev pub decreases-loop-i : goal.decreases-loop-i
-decreases-loop-i l = l.events - l.i
+invariant-loop-i l = kinds_from l.i (l.events - l.i) l.area l.kinds ≡ kinds_from 0 l.events l.area l.initial.kinds
