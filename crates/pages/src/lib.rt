@@ -33,15 +33,22 @@ fn damage(findings: &[u8], before: u16) -> Result<(), Refusal>
 }
 
 // The refusal of the first damaged finding of so many; the answer given, where none is damaged.
-fn unless_damaged(findings: &[u8], count: u16, answer: Result<u32, PageRefusal>) -> Result<u32, PageRefusal>
+fn unless_damaged(
+    findings: &[u8],
+    count: u16,
+    answer: Result<u32, PageRefusal>,
+) -> Result<u32, PageRefusal>
     ensures { result ≡ unless_damaged 0 count findings.now answer }
 {
     for before in 0..count {
-        if let Err(refusal) = damage(findings, before) {
-            return Err(PageRefusal {
-                refusal,
-                position: before + 1,
-            });
+        match damage(findings, before) {
+            Ok(()) => {}
+            Err(refusal) => {
+                return Err(PageRefusal {
+                    refusal,
+                    position: before + 1,
+                })
+            }
         }
     }
     answer
