@@ -20,6 +20,8 @@ pub fn phrase(text: &mut Cursor<'_>, first: &[u8], m: u32, second: &[u8], n: u32
 }
 
 // `trace 9 events 2 lines`
+// stays: `as u32` here and in the other lines, since `u32::from` is no plainer: the check reads `as` by itself, and of each `from` it
+// takes an equation, which each answer would have to name.
 pub fn head(text: &mut Cursor<'_>, events: u16, lines: u16)
     ensures { Puts (head_line events lines) text.old text.new }
 {

@@ -13,6 +13,7 @@ use finding_lines::Shown;
 use text::Cursor;
 
 // 1 for a finding of a kind that is shown, else 0.
+// stays: a number for a flag, since the function is public and promises the number.
 pub fn shown(kind: u8) -> u8
     ensures { result ≡ Rows·shown kind }
 {
