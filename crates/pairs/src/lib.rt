@@ -53,7 +53,13 @@ impl<'a> Places for Losable<'a> {
         let lost = b as u16;
         let one_line = self.kept.line == lost / 64;
         let one_word = self.kept.word == lost / 8;
-        is_broken(self.kept.store, self.stored[b], one_line, one_word, self.fenced[b])
+        is_broken(
+            self.kept.store,
+            self.stored[b],
+            one_line,
+            one_word,
+            self.fenced[b],
+        )
     }
 }
 
@@ -77,6 +83,7 @@ fn first_broken(
         m) }
 {
     let mut found = None;
+    // stays: loops left by a label are the form that document 01 asks for (docs/CLAIMS.md), and not one search inside another
     'kept: for kept in start..start + m {
         let store = stored[kept];
         if store != 0 {

@@ -121,8 +121,10 @@ filled_part x at n k xs {ys} s e filling = rw (filling, e, many) (ext_get_or 0 _
   where
     many : length (mid_of at n xs) ≡ n
     many = grind (arith, places)
+
     long : length (put_mid at n xs (replicate n x)) ≡ length (filled x at n xs)
     long = let same : length (filled x at n xs) ≡ length xs = changed_length (λ place old. x) at xs n in grind (arith, places)
+
     entries : (i : ℕ) → get_or (put_mid at n xs (replicate n x)) i 0 ≡ get_or (filled x at n xs) i 0
     entries i = go (dec_le at i) (dec_le (at + n) i)
       where
