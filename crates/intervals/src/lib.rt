@@ -25,6 +25,7 @@ pub fn open_bytes(opened: &mut [u16], a: Range, epoch: u16)
 {
     let at = a.address as usize;
     let n = room(at, a.length as usize, opened.len());
+    // stays: with `fill` of std in its place many fences take 15,965,155 instructions against 15,744,652
     for i in 0..n {
         opened[at + i] = epoch;
     }
