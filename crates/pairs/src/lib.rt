@@ -83,6 +83,7 @@ fn first_broken(
         m) }
 {
     let mut found = None;
+    // stays: loops left by a label are the form that document 01 asks for (docs/CLAIMS.md), and not one search inside another
     'kept: for kept in start..start + m {
         let store = stored[kept];
         if store != 0 {

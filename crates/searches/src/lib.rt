@@ -51,6 +51,8 @@ impl<'a> Places for Entries<'a> {
     fn passes(&self, at: usize) -> bool {
         let x = self.xs[at];
         let y = self.ys[at];
+        // stays: a value to match on, and no closure: that needs clauses on what it may be asked, and no public function over tables has a
+        // `requires` (docs/DECISIONS.md, 29); a type for each of the five tests is five impls in place of these five lines
         match self.test {
             Test::Since(n) => n < x,
             Test::NotSince(n) => x <= n,
@@ -88,6 +90,7 @@ pub fn skip<P: Places>(places: &P, at: usize, n: usize) -> usize
 {
     let end = at + n;
     let mut b = at;
+    // stays: with a `for` over the groups large ordered takes 78,859,436 instructions against 64,710,054
     while b + 8 <= end {
         if any(places, b, 8) {
             return b;
@@ -173,6 +176,7 @@ pub fn first_open(
     };
     let mut b = part.address as usize;
     let end = b + part.length as usize;
+    // stays: each turn ends where its line or the range does, so a `for` over the lines would work out both ends of each
     while b < end {
         let l = b / 64;
         let stop = line_stop(b, end);

@@ -12,10 +12,7 @@ use lib.Dec.{leb, ltb}
 use lib.ListN.{length, get_or, set, length-set}
 use lib.Seq.{get_or-set_same, get_or-set_other, set-get_or, set_out}
 use borrow.Author.Tests.{le-leb, lt-leb, lt-ltb, le-ltb}
-use borrow.Rule.Slice.PartMut.{mid_of, put_mid, same_len_mid}
-use Rattle.std.proofs.Common.{rules, replicate}
-use Rattle.std.proofs.lemmas.List.{ext_get_or, places}
-use Rattle.tables.specs.Table.{changed, filled}
+use Rattle.tables.specs.Table.{changed}
 
 module _ (f : ℕ → ℕ → ℕ) (at : ℕ) (xs : List ℕ) where
   -- a change keeps the length
@@ -113,32 +110,3 @@ unfolding changed
 changed_kept f at zero xs h = refl
 changed_kept f at (suc n) xs h =
     rw (changed_kept f at n xs (λ k a b. h k a (omega arith)), h (at + n) (omega arith) (omega arith)) (set-get_or xs (at + n) 0)
-
--- entries in a row that are filled at once, as a part of the table
-pub filled_part : (x at n k : ℕ) (xs : List ℕ) {ys : List ℕ} → at + n ≤ length xs → k ≡ n → ys ≡ replicate (length (mid_of at k xs)) x →
-    put_mid at k xs ys ≡ filled x at n xs
-filled_part x at n k xs {ys} s e filling = rw (filling, e, many) (ext_get_or 0 _ _ long (λ i below. entries i))
-  where
-    many : length (mid_of at n xs) ≡ n
-    many = grind (arith, places)
-
-    long : length (put_mid at n xs (replicate n x)) ≡ length (filled x at n xs)
-    long = let same : length (filled x at n xs) ≡ length xs = changed_length (λ place old. x) at xs n in grind (arith, places)
-
-    entries : (i : ℕ) → get_or (put_mid at n xs (replicate n x)) i 0 ≡ get_or (filled x at n xs) i 0
-    entries i = go (dec_le at i) (dec_le (at + n) i)
-      where
-        go : Dec (at ≤ i) → Dec (at + n ≤ i) → get_or (put_mid at n xs (replicate n x)) i 0 ≡ get_or (filled x at n xs) i 0
-        go (no a) d = rw (changed_below (λ place old. x) at xs n i (omega arith)) (grind (arith, places))
-        go (yes a) (yes b) = rw (changed_above (λ place old. x) at xs n i b) (grind (arith, places))
-        go (yes a) (no b) = rw (changed_inside (λ place old. x) at xs n i a (omega arith) s) (grind (arith, places))
-
--- where the table has only some of them
-pub filled_room : (x at n : ℕ) {from m : ℕ} (xs : List ℕ) {ys : List ℕ} →
-    from ≡ min at (length xs) → m ≡ min n (length xs - from) → ys ≡ filled x from m xs → ys ≡ filled x at n xs
-unfolding changed
-filled_room x at n {from} {m} xs {ys} h k e = go (dec_le at (length xs))
-  where
-    go : Dec (at ≤ length xs) → ys ≡ filled x at n xs
-    go (yes a) = let same : from ≡ at = omega arith in changed_room (λ place old. x) at n xs (rw same at k) (rw same at e)
-    go (no a) = let none : m ≡ 0 = omega arith in rw none at e ∙ sym (changed_out (λ place old. x) at n xs (omega arith))

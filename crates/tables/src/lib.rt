@@ -23,6 +23,7 @@ pub struct Counts {
 // A run: its numbers, six tables over the bytes of the largest window and two over its lines. Findings go by the events alone. The epochs
 // and the first write-backs are what the answer of a byte asked has besides. Where a byte is stored to again, its entries of the earlier
 // store stay: a closing fence and a write-back older than the last store count for nothing, and so does the closing epoch then.
+// stays: 0 and no Option for none, since the tables begin as `[0; 4096]`, the form of document 01 (docs/DECISIONS.md), and specs/ goes by it
 #[derive(Clone, Copy)]
 pub struct Run {
     pub counts: Counts,

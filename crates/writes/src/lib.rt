@@ -16,6 +16,7 @@ fn fill(xs: &mut [u16], at: usize, n: usize, x: u16)
     requires { at + n ≤ length xs.old }
     ensures { xs.new ≡ filled x at n xs.old }
 {
+    // stays: with `fill` of std small stores take FILLA instructions against FILLB
     for i in 0..n {
         xs[at + i] = x;
     }
@@ -107,6 +108,7 @@ pub fn close_lines(
     let fence = counts.fence;
     let end = tables::lines_of(counts) as usize;
     let mut l = 0;
+    // stays: with a `for` over the groups large persisted takes 631,988 instructions against 606,776
     while l + 8 <= end {
         if searches::any_of_eight(Test::Since(fence), backed, backed, l) {
             close_some(fenced, stored, backed, l, l + 8, fence, number);

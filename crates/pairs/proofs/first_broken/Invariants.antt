@@ -2,7 +2,7 @@
 -- kept byte, also after the skip, and for the kept bytes; one that was never stored to has no partner.
 -- Assumes nothing.
 use mathlib.Core.Path.{◌≡◌}
-use Prim.Native.Nat.{◌+◌, ◌≤◌}
+use Prim.Native.Nat.{◌+◌}
 use Rattle.std.specs.Prelude.{None}
 use Rattle.event.specs.declared.Range.{Range}
 use Rattle.history.specs.Found.{lowest}

@@ -1,6 +1,6 @@
 -- `searches::first_since_begin` meets its contract: the search over the lines that are left is the whole search.
 -- Assumes nothing.
-use mathlib.Core.Path.{◌≡◌, refl, sym, ◌∙◌}
+use mathlib.Core.Path.{◌≡◌, refl, sym}
 use Prim.Native.Nat.{◌+◌, ◌*◌}
 use native.Mathlib.Omega.{arith}
 use Rattle.searches.specs.declared.Test.TheVariants.{OpenSince}
