@@ -4,7 +4,7 @@ use Rattle.event.specs.declared.Refusal.TheVariants.{PastWindow, TransactionOpen
 use Rattle.window.specs.Window.{lines_check}
 use Rattle.ranges.specs.Ranges.{is_past}
 use Rattle.history.specs.Given.{window_of}
-use Rattle.tables.specs.declared.Run.{Run}
+use Rattle.tables.specs.Run.{Run}
 use Rattle.engine.specs.declared.Window.{Window}
 use Rattle.engine.specs.Answers.{Asked, Closing}
 use Rattle.tables.specs.View.{run_of, no_counts, named_in, of_run}

@@ -7,7 +7,7 @@ use lib.ListN.{get_or}
 use borrow.Author.Tests.{ne_eqb}
 use Rattle.codec.specs.Codec.{u16_at}
 use Rattle.records.specs.Record.{parsed}
-use Rattle.tables.specs.declared.Run.{Run}
+use Rattle.tables.specs.Run.{Run}
 use Rattle.engine.specs.Call.{fresh_of}
 use Rattle.engine_runs.specs.Runs.{after_record, after_fences, after_call}
 

@@ -6,7 +6,7 @@ use mathlib.Core.List.{List, [], ◌∷◌}
 use Prim.Native.Nat.{ℕ, suc, ◌+◌}
 use Rattle.event.specs.Answers.{Answer, Parsed}
 use Rattle.codec.specs.Codec.{finding_size}
-use Rattle.events.specs.declared.Given.{Given}
+use Rattle.events.specs.Give.{Given}
 use Rattle.events.specs.Give.{bare}
 use Rattle.events.proofs.Bare.{give_bare}
 use Rattle.record_step.specs.Step.{Stage, stage, placed_for, record_answer, record_given}

@@ -9,7 +9,7 @@ use Rattle.event.specs.declared.Refusal.{Refusal}
 use Rattle.event.specs.Answers.{Answer, Parsed}
 use Rattle.codec.specs.Codec.{finding_bytes}
 use Rattle.codec.specs.Placed.{placed}
-use Rattle.events.specs.declared.Given.{Given}
+use Rattle.events.specs.Give.{Given}
 use Rattle.events.specs.Give.{give_of}
 use Rattle.record_step.specs.Step.{placed_for, Stage, stage, record_answer, record_given}
 

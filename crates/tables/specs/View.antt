@@ -12,7 +12,7 @@ use Rattle.history.specs.History.{stores_some}
 use Rattle.history.specs.View.{View}
 use Rattle.limits.specs.Limits.{numbers_of}
 use Rattle.tables.specs.declared.Counts.{Counts}
-use Rattle.tables.specs.declared.Run.{Run}
+use Rattle.tables.specs.Run.{Run}
 use Rattle.tables.specs.Table.{entry}
 
 -- the run with these numbers and these tables

@@ -11,7 +11,7 @@ use Rattle.event.specs.declared.Refusal.TheVariants.{PastWindow}
 use Rattle.ranges.specs.Ranges.{is_past}
 use Rattle.history.specs.View.{View}
 use Rattle.history.proofs.Given.{none_broken}
-use Rattle.tables.specs.declared.Run.{Run}
+use Rattle.tables.specs.Run.{Run}
 use Rattle.engine.specs.Call.{ask_of}
 use Rattle.engine.proofs.ByEntries.{same_named}
 use Rattle.engine.proofs.Link.{same_view, tracks}
