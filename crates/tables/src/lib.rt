@@ -3,7 +3,7 @@
 
 ghost use Rattle.std.specs.Prelude.{◌≡◌, min};
 ghost use Rattle.tables.specs.Table.{in_tables};
-ghost use Rattle.tables.specs.View.{no_counts, lines_of, begin_after, store_after, line_open, since_store, interval_from, named_from};
+ghost use Rattle.tables.specs.View.{no_counts, fresh_run, lines_of, begin_after, store_after, line_open, since_store, interval_from, named_from};
 
 use event::{Interval, NamedInterval, Range};
 use std::marker::Model;
@@ -48,16 +48,35 @@ impl<const E: usize> Model for Run<E> {
     ghost view = { λ r. run_of r.counts r.stored r.logged r.fenced r.opened r.closed r.written r.dirtied r.backed };
 
     ghost inverse = { λ r. record {
-        counts = r.counts;
-        stored = r.stored;
-        logged = r.logged;
-        fenced = r.fenced;
-        opened = r.opened;
-        closed = r.closed;
-        written = r.written;
-        dirtied = r.dirtied;
-        backed = r.backed;
+      counts = r.counts;
+      stored = r.stored;
+      logged = r.logged;
+      fenced = r.fenced;
+      opened = r.opened;
+      closed = r.closed;
+      written = r.written;
+      dirtied = r.dirtied;
+      backed = r.backed;
     } };
+}
+
+impl<const E: usize> Run<E> {
+    // A run in which nothing has happened.
+    pub fn fresh(lines: u16) -> Self
+        ensures { result ≡ fresh_run E lines }
+    {
+        Run {
+            counts: no_counts(lines),
+            stored: [0; 4096],
+            logged: [0; 4096],
+            fenced: [0; 4096],
+            opened: [0; E],
+            closed: [0; E],
+            written: [0; E],
+            dirtied: [0; 64],
+            backed: [0; 64],
+        }
+    }
 }
 
 // The numbers of a run in which nothing has happened.
