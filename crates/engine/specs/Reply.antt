@@ -5,7 +5,6 @@ use Rattle.event.specs.Reply.{Reply, check_reply, answer_reply, named_values}
 use Rattle.events.specs.Give.{Given}
 use Rattle.engine.specs.declared.Window.{Window}
 use Rattle.engine.specs.Answers.{Asked, Closing}
-use Rattle.event.specs.Answers.{totals}
 
 -- a fresh window: it has no values
 abbrev pub window_reply : Window → Reply

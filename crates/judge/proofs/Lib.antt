@@ -1,5 +1,4 @@
 -- Laws of what the judge makes of the records of a trace.
-pub mod Copied  -- a part of a list copied to the front of another
 pub mod Buffer  -- the buffer for the records of a trace
 pub mod Ends  -- the verdict and the area from where the records lead
 pub mod JudgedTrace  -- they are those of the trace
