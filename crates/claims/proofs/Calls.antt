@@ -1,7 +1,7 @@
 -- Bytes asked, closings and mean exposures between the events change nothing.
 use mathlib.Core.Path.{◌≡◌, refl}
 use mathlib.Core.List.{List, [], ◌∷◌}
-use Rattle.tables.specs.declared.Run.{Run}
+use Rattle.tables.specs.Run.{Run}
 use Rattle.events.specs.Give.{give_of}
 use Rattle.engine.specs.Given.{run_after}
 use Rattle.claims.specs.Calls.{Call, run_called, events_among}

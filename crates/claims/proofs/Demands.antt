@@ -25,7 +25,7 @@ use Rattle.history.proofs.Claim.{finding_claim}
 use Rattle.history.proofs.Given.{whole_claim, one_run}
 use Rattle.history.proofs.Exactly.{claimed as claim-of, persisted_holds, ordered_holds, end_holds}
 use Rattle.history.proofs.Small.{small_runs_lem}
-use Rattle.events.specs.declared.Given.{Given}
+use Rattle.events.specs.Give.{Given}
 use Rattle.events.specs.Give.{give_of}
 use Rattle.engine.specs.Call.{empty_run, fresh_of, close_of}
 use Rattle.engine.specs.Reply.{window_reply, given_reply, asked_reply, closing_reply}

@@ -22,7 +22,7 @@ use Rattle.history.specs.Given.{window_of}
 use Rattle.history.proofs.Interval.{if_some_lem, closing_stored, named_none, named_stored, named_interval, last_store_stores, last_store_latest}
 use Rattle.history.proofs.Meaning.Intervals.{FirstAfter, FirstBack, NamedIs, named_is}
 use Rattle.history.proofs.Meaning.ByEpochs.{same_risk, same_breaks}
-use Rattle.tables.specs.declared.Run.{Run}
+use Rattle.tables.specs.Run.{Run}
 use Rattle.tables.specs.Table.{entry}
 use Rattle.tables.specs.View.{since_store, of_run}
 use Rattle.tables.proofs.SinceStore.{open_by, open_at}

@@ -24,7 +24,7 @@ use Rattle.history.specs.View.{View, of_history}
 use Rattle.history.specs.Refused.{Limit, limits_by, First, NoneBroken, first_broken, refusal_by}
 use Rattle.history.specs.Given.{window_of, RefusedBy, Accepted}
 use Rattle.history.proofs.Meaning.Refusals.{Applies, range_any, shared_ranges, accepted_none}
-use Rattle.events.specs.declared.Given.{Given}
+use Rattle.events.specs.Give.{Given}
 use Rattle.events.specs.Give.{give_of}
 use Rattle.engine.specs.Reply.{given_reply}
 use Rattle.trailer.specs.Trailer.{trailer_size, most_bytes}

@@ -6,7 +6,7 @@ use Rattle.event.specs.Answers.{Answer}
 use Rattle.event.specs.Reply.{Reply, answer_reply}
 use Rattle.history.specs.History.{History}
 use Rattle.history.specs.Given.{window_of, accepted}
-use Rattle.tables.specs.declared.Run.{Run}
+use Rattle.tables.specs.Run.{Run}
 use Rattle.engine.specs.Call.{fresh_of}
 use Rattle.engine.specs.Given.{run_after, outcomes}
 

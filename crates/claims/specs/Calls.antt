@@ -2,7 +2,7 @@
 -- goes on with the one that it has.
 use Rattle.std.specs.Prelude.{List, [], ◌∷◌, ℕ}
 use Rattle.event.specs.declared.Record.{Record}
-use Rattle.tables.specs.declared.Run.{Run}
+use Rattle.tables.specs.Run.{Run}
 use Rattle.events.specs.Give.{give_of}
 
 pub data Call : Type 0 where

@@ -15,7 +15,7 @@ use Rattle.history.specs.History.{History, is, stores, covers_some, stores_byte,
 use Rattle.history.specs.Transaction.{depth, outermost, Since}
 use Rattle.history.specs.Refused.{refusal_by}
 use Rattle.history.specs.Given.{window_of, Accepted}
-use Rattle.tables.specs.declared.Run.{Run}
+use Rattle.tables.specs.Run.{Run}
 use Rattle.tables.specs.View.{of_run}
 use Rattle.events.specs.Give.{one_event_more, give_of}
 use Rattle.engine.specs.Reply.{given_reply}

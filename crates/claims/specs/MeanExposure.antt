@@ -7,7 +7,7 @@ use Rattle.window.specs.Window.{window_bytes}
 use Rattle.history.specs.History.{History}
 use Rattle.history.specs.Interval.{interval_of}
 use Rattle.history.specs.Given.{window_of}
-use Rattle.tables.specs.declared.Run.{Run}
+use Rattle.tables.specs.Run.{Run}
 use Rattle.tables.specs.View.{interval_in, of_run}
 use Rattle.engine.specs.Call.{ask_of}
 use Rattle.engine.specs.Reply.{asked_reply}

@@ -9,7 +9,7 @@ use Rattle.history.specs.Interval.{epoch_at, last_store, back_after, interval_of
 use Rattle.history.specs.Found.{at_risk, breaks}
 use Rattle.history.specs.ByEpochs.{risk_by_epochs, breaks_by_epochs}
 use Rattle.history.specs.Given.{window_of}
-use Rattle.tables.specs.declared.Run.{Run}
+use Rattle.tables.specs.Run.{Run}
 use Rattle.tables.specs.Table.{entry}
 use Rattle.tables.specs.View.{of_run}
 use Rattle.events.specs.Give.{give_of, bare, bare_given}

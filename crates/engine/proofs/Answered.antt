@@ -12,7 +12,7 @@ use Rattle.history.specs.Refused.{limits_by, refusal_by}
 use Rattle.history.specs.Found.{finding_by}
 use Rattle.history.specs.Given.{Accepted, answer_of}
 use Rattle.history.proofs.Given.{Checked, checked, answer_refused, answer_found}
-use Rattle.tables.specs.declared.Run.{Run}
+use Rattle.tables.specs.Run.{Run}
 use Rattle.tables.specs.View.{of_run}
 use Rattle.events.specs.Give.{next_of, given_for, give_of}
 

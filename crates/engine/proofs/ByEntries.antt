@@ -14,7 +14,7 @@ use Rattle.history.specs.Count.{last, if_some}
 use Rattle.history.specs.History.{History, is, fences}
 use Rattle.history.specs.Interval.{epoch_at, last_store, fence_after, interval_of, closing_fence, first_back, named_of}
 use Rattle.history.proofs.Interval.{if_some_lem, closing_stored, back_stored, named_none, named_stored, named_interval}
-use Rattle.tables.specs.declared.Run.{Run}
+use Rattle.tables.specs.Run.{Run}
 use Rattle.tables.specs.Table.{entry}
 use Rattle.tables.specs.View.{since_store, interval_in, named_from, named_in}
 use Rattle.tables.proofs.SinceStore.{named_dropped}

@@ -12,7 +12,7 @@ use Rattle.event.specs.declared.Event.TheVariants.{Store, WriteBack, Fence, Begi
 use Rattle.window.specs.Window.{most_lines, window_bytes, line_of}
 use Rattle.ranges.specs.Ranges.{touches, is_past, ranges_of, any_range}
 use Rattle.history.specs.History.{stores, writes_back, fences, logs, stores_byte, stores_line, writes_back_line, logs_byte}
-use Rattle.tables.specs.declared.Run.{Run}
+use Rattle.tables.specs.Run.{Run}
 use Rattle.tables.specs.Table.{entry, changed}
 use Rattle.tables.specs.View.{lines_of}
 use Rattle.intervals.specs.Now.{backed_now, closed_now}

@@ -23,7 +23,7 @@ use Rattle.history.specs.Image.{Forced}
 use Rattle.history.proofs.History.{is_last, is_latest}
 use Rattle.history.proofs.Interval.{last_store_on_line, closing_stored, forced_closes}
 use Rattle.history.proofs.Tests.{not_zero}
-use Rattle.tables.specs.declared.Run.{Run}
+use Rattle.tables.specs.Run.{Run}
 use Rattle.tables.specs.Table.{entry}
 use Rattle.tables.specs.View.{since_store, line_open, of_run}
 use Rattle.tables.proofs.SinceStore.{open_by}

@@ -24,7 +24,7 @@ use Rattle.history.specs.Given.{Accepted, counts}
 use Rattle.history.proofs.Interval.{last_store_stores, last_store_within}
 use Rattle.history.proofs.Meaning.Events.{epoch_kept, epoch_next}
 use Rattle.history.proofs.Meaning.Accepted.{Taken}
-use Rattle.tables.specs.declared.Run.{Run}
+use Rattle.tables.specs.Run.{Run}
 use Rattle.tables.specs.Table.{entry}
 use Rattle.tables.specs.View.{since_store, lines_of, of_run}
 use Rattle.tables.proofs.SinceStore.{since_older, since_counts, open_by}

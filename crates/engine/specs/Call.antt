@@ -1,20 +1,18 @@
 -- What each call answers and what run it hands over, for every run whatever.
-use Rattle.std.specs.Prelude.{cond, ℕ, eqb, replicate, Ok, Err}
+use Rattle.std.specs.Prelude.{cond, ℕ, eqb, Ok, Err}
 use Rattle.event.specs.declared.Refusal.TheVariants.{PastWindow, TransactionOpen}
 use Rattle.window.specs.Window.{lines_check}
 use Rattle.ranges.specs.Ranges.{is_past}
 use Rattle.history.specs.Given.{window_of}
-use Rattle.tables.specs.declared.Run.{Run}
+use Rattle.tables.specs.Run.{Run}
 use Rattle.engine.specs.declared.Window.{Window}
 use Rattle.engine.specs.Answers.{Asked, Closing}
-use Rattle.tables.specs.View.{run_of, no_counts, named_in, of_run}
+use Rattle.tables.specs.View.{fresh_run, named_in, of_run}
 use Rattle.event.specs.Answers.{totals}
 
 -- no byte of the window has been stored to
 unfoldable pub empty_run : ℕ → Run
-empty_run lines =
-    run_of (no_counts lines) (replicate 4096 0) (replicate 4096 0) (replicate 4096 0) (replicate 4096 0) (replicate 4096 0) (replicate 4096 0)
-    (replicate 64 0) (replicate 64 0)
+empty_run lines = fresh_run 4096 lines
 
 -- a fresh window: the check of the lines asked for, and the run; of one line where they are refused
 abbrev pub fresh_of : ℕ → Window

@@ -2,7 +2,7 @@
 use Rattle.std.specs.Prelude.{List, [], ◌∷◌}
 use Rattle.event.specs.declared.Record.{Record}
 use Rattle.event.specs.Answers.{Answer}
-use Rattle.tables.specs.declared.Run.{Run}
+use Rattle.tables.specs.Run.{Run}
 use Rattle.events.specs.Give.{give_of}
 
 -- the run after them

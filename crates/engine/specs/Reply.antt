@@ -2,10 +2,9 @@
 use Rattle.std.specs.Prelude.{[], ◌∷◌, Ok, Err}
 use Rattle.event.specs.Numbers.{number_of}
 use Rattle.event.specs.Reply.{Reply, check_reply, answer_reply, named_values}
-use Rattle.events.specs.declared.Given.{Given}
+use Rattle.events.specs.Give.{Given}
 use Rattle.engine.specs.declared.Window.{Window}
 use Rattle.engine.specs.Answers.{Asked, Closing}
-use Rattle.event.specs.Answers.{totals}
 
 -- a fresh window: it has no values
 abbrev pub window_reply : Window → Reply

@@ -4,7 +4,7 @@ use Rattle.history.specs.Count.{last}
 use Rattle.history.specs.History.{History, is, fences, stores_some, stores_line, writes_back_line, logs_byte}
 use Rattle.history.specs.Interval.{epoch_at, last_store, closing_fence, first_back}
 use Rattle.history.specs.Transaction.{depth, outermost}
-use Rattle.tables.specs.declared.Run.{Run}
+use Rattle.tables.specs.Run.{Run}
 use Rattle.tables.specs.Table.{entry}
 use Rattle.tables.specs.View.{since_store}
 

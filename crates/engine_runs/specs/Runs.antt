@@ -4,7 +4,7 @@ use Rattle.event.specs.declared.Event.TheVariants.{Fence}
 use Rattle.event.specs.Answers.{Parsed}
 use Rattle.codec.specs.Codec.{u16_at}
 use Rattle.records.specs.Record.{parsed}
-use Rattle.tables.specs.declared.Run.{Run}
+use Rattle.tables.specs.Run.{Run}
 use Rattle.events.specs.Give.{give_of}
 use Rattle.engine.specs.Call.{fresh_of}
 

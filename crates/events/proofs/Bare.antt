@@ -9,7 +9,7 @@ use Rattle.event.specs.declared.Finding.{Finding}
 use Rattle.event.specs.Answers.{Check}
 use Rattle.history.specs.Refused.{refusal_by}
 use Rattle.history.specs.Found.{finding_by}
-use Rattle.tables.specs.declared.Run.{Run}
+use Rattle.tables.specs.Run.{Run}
 use Rattle.tables.specs.View.{of_run}
 use Rattle.tables.proofs.Table.{changed_empty}
 use Rattle.events.specs.Next.{tables_after}

@@ -2,7 +2,7 @@
 use Rattle.std.proofs.Common.{◌≡◌, ℕ, Bool, true, false, cond, ◌&&◌, ltb, leb, refl, arith, ltb-true, le-leb}
 use Rattle.event.proofs.Bools.{or_right}
 use Rattle.window.specs.Window.{line_of}
-use Rattle.tables.specs.declared.Run.{Run}
+use Rattle.tables.specs.Run.{Run}
 use Rattle.tables.specs.Table.{entry, changed}
 use Rattle.tables.specs.View.{line_open}
 use Rattle.tables.proofs.Table.{changed_same}

@@ -2,5 +2,5 @@
 pub mod Passed  -- the ranges of an event that no limit refuses are within the tables
 pub mod FenceClosed  -- a fence closes the bytes that a judge closes
 pub mod NoBytes  -- what a store, a write-back and a log of no bytes do to a run
-pub mod Steps  -- the outcome of an event given, from its parts
+pub mod Steps  -- an event given, from the check of the limits
 pub mod Bare  -- a run without the tables that no finding goes by

@@ -16,7 +16,7 @@ use Rattle.history.specs.Refused.{refusal_by}
 use Rattle.history.specs.Found.{lowest, found_or, unlogged, logged, warned_line, finding_by}
 use Rattle.ranges.proofs.Meaning.{no_lines}
 use Rattle.history.proofs.Meaning.NoBytes.{idle}
-use Rattle.tables.specs.declared.Run.{Run}
+use Rattle.tables.specs.Run.{Run}
 use Rattle.tables.specs.Table.{changed, filled_bytes, filled_lines}
 use Rattle.tables.specs.View.{of_run}
 use Rattle.intervals.specs.Now.{backed_now}

@@ -11,7 +11,7 @@ use Rattle.history.specs.History.{fences, begins, stores_some}
 use Rattle.history.specs.Transaction.{depth_after}
 use Rattle.history.specs.Found.{at_risk}
 use Rattle.tables.specs.declared.Counts.{Counts}
-use Rattle.tables.specs.declared.Run.{Run}
+use Rattle.tables.specs.Run.{Run}
 use Rattle.tables.specs.Table.{changed, filled_bytes, filled_lines}
 use Rattle.tables.specs.View.{lines_of, run_of, of_run}
 use Rattle.intervals.specs.Now.{backed_now, closed_now}

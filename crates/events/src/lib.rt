@@ -1,38 +1,18 @@
-// An event given to tables that the caller lends, in place: nothing of them is copied.
+// An event given to a run that the caller lends, in place: nothing of it is copied.
 #![tactic(auto)]
 
-ghost use Rattle.std.specs.Prelude.{◌≡◌, Ok, ◌<◌, ◌≤◌, [], if◌then◌else◌};
+ghost use Rattle.std.specs.Prelude.{◌≡◌, Ok, ◌<◌, ◌≤◌, if◌then◌else◌};
 ghost use Rattle.event.specs.Numbers.{is_none};
-ghost use Rattle.window.specs.Window.{window_bytes, line_of};
-ghost use Rattle.ranges.specs.Ranges.{line_count, range_end};
+ghost use Rattle.ranges.specs.Ranges.{range_end};
 ghost use Rattle.history.specs.Refused.{refusal_by};
-ghost use Rattle.history.specs.Found.{lowest_in, finding_by};
-ghost use Rattle.tables.specs.Table.{changed, filled_bytes, filled_lines};
-ghost use Rattle.tables.specs.View.{run_of, no_counts, lines_of, limits_of, of_run};
-ghost use Rattle.searches.specs.Tests.{open_byte};
-ghost use Rattle.writes.specs.Fenced.{fenced_by};
-ghost use Rattle.intervals.specs.Now.{backed_now, closed_now};
-ghost use Rattle.findings.specs.Findings.{durable_at, ended_at};
-ghost use Rattle.events.specs.Next.{next_number, one_more, counted_with};
-ghost use Rattle.events.specs.Give.{outcome_of, stepped_for, given_for, give_of};
+ghost use Rattle.history.specs.Found.{finding_by};
+ghost use Rattle.tables.specs.View.{limits_of, of_run};
+ghost use Rattle.events.specs.Next.{one_more, counted_with};
+ghost use Rattle.events.specs.Give.{next_of, give_of};
 
 use event::{Event, Finding, Range, Record, Refusal};
 use std::num;
 use tables::{Counts, Run};
-
-// An event given to a run: its refusal or its finding, and the run to go on with.
-#[derive(Drop)]
-pub struct Given {
-    pub answer: Result<Finding, Refusal>,
-    pub run: Run,
-}
-
-// An event given to tables that the caller lends: its refusal or its finding, and the numbers to go on with.
-#[derive(Clone, Copy)]
-pub struct Stepped {
-    pub answer: Result<Finding, Refusal>,
-    pub counts: Counts,
-}
 
 // The count of findings other than none, with one more finding.
 fn findings_after(n: u16, f: Finding) -> u16
@@ -58,268 +38,173 @@ fn counted(counts: Counts, f: Finding) -> Counts
 }
 
 // A store: the last of its bytes and of its lines; the intervals of its bytes open.
-fn store(
-    counts: Counts,
-    stored: &mut [u16; 4096],
-    logged: &[u16; 4096],
-    opened: &mut [u16],
-    dirtied: &mut [u16; 64],
-    a: Range,
-) -> Stepped
-    requires { (counts.events < 65535) × (range_end a ≤ 4096) }
-    ensures value { result ≡ stepped_for counts (Event.Store a) (finding_by (of_run (run_of counts [] logged.now [] [] [] [] [] [])) (Event.Store a)) }
-    ensures stored_after { stored.new ≡ filled_bytes (next_number counts) a stored.old }
-    ensures opened_after { opened.new ≡ filled_bytes counts.fences a opened.old }
-    ensures dirtied_after { dirtied.new ≡ filled_lines (next_number counts) a dirtied.old }
+fn store<const E: usize>(run: &mut Run<E>, a: Range) -> Finding
+    requires { (run.old.counts.events < 65535) × (range_end a ≤ 4096) }
+    ensures value { result ≡ finding_by (of_run run.old) (Event.Store a) }
+    ensures run_after { run.new ≡ next_of run.old (Event.Store a) result }
 {
-    let finding = findings::of_store(counts, logged, a);
+    let counts = run.counts;
+    let finding = findings::of_store(counts, &run.logged, a);
     let next = counted(counts, finding);
-    writes::store(next.events, stored, dirtied, a);
-    intervals::open_bytes(opened, a, counts.fences);
-    Stepped {
-        answer: Ok(finding),
-        counts: Counts {
-            store: tables::store_after(a, counts.store, next.events),
-            ..next
-        },
-    }
+    writes::store(next.events, &mut run.stored, &mut run.dirtied, a);
+    intervals::open_bytes(&mut run.opened, a, counts.fences);
+    run.counts = Counts {
+        store: tables::store_after(a, counts.store, next.events),
+        ..next
+    };
+    finding
 }
 
 // A write-back: the last of its lines, and the first since their last store of bytes of these lines.
-fn write_back(
-    counts: Counts,
-    stored: &[u16; 4096],
-    written: &mut [u16],
-    dirtied: &[u16; 64],
-    backed: &mut [u16; 64],
-    a: Range,
-) -> Stepped
-    requires { (counts.events < 65535) × (range_end a ≤ 4096) }
-    ensures value { result ≡
-        stepped_for counts (Event.WriteBack a)
-        (finding_by (of_run (run_of (no_counts 0) [] [] [] [] [] [] dirtied.now backed.old)) (Event.WriteBack a)) }
-    ensures written_after { written.new ≡
-        changed (backed_now (next_number counts) stored.now) (window_bytes (line_of a.address)) (window_bytes (line_count a))
-        written.old }
-    ensures backed_after { backed.new ≡ filled_lines (next_number counts) a backed.old }
+fn write_back<const E: usize>(run: &mut Run<E>, a: Range) -> Finding
+    requires { (run.old.counts.events < 65535) × (range_end a ≤ 4096) }
+    ensures value { result ≡ finding_by (of_run run.old) (Event.WriteBack a) }
+    ensures run_after { run.new ≡ next_of run.old (Event.WriteBack a) result }
 {
-    let finding = findings::of_back(dirtied, backed, a);
-    let next = counted(counts, finding);
-    intervals::write_back(written, stored, a, next.events);
-    writes::fill_lines(backed, a, next.events);
-    Stepped {
-        answer: Ok(finding),
-        counts: next,
-    }
+    let finding = findings::of_back(&run.dirtied, &run.backed, a);
+    let next = counted(run.counts, finding);
+    intervals::write_back(&mut run.written, &run.stored, a, next.events);
+    writes::fill_lines(&mut run.backed, a, next.events);
+    run.counts = next;
+    finding
 }
 
 // A fence: it closes bytes of the window, at the epoch that it begins.
-fn fence(
-    counts: Counts,
-    stored: &[u16; 4096],
-    fenced: &mut [u16; 4096],
-    closed: &mut [u16],
-    backed: &[u16; 64],
-) -> Stepped
-    requires { counts.events < 65535 }
-    ensures value { result ≡ stepped_for counts Event.Fence Finding.None }
-    ensures fenced_after { fenced.new ≡
-        changed (fenced_by counts.fence (next_number counts) stored.now backed.now) 0 (window_bytes (lines_of counts))
-        fenced.old }
-    ensures closed_after { closed.new ≡
-        changed (closed_now (next_number counts) (one_more counts.fences) fenced.new) 0 (window_bytes (lines_of counts))
-        closed.old }
+fn fence<const E: usize>(run: &mut Run<E>) -> Finding
+    requires { run.old.counts.events < 65535 }
+    ensures value { result ≡ finding_by (of_run run.old) Event.Fence }
+    ensures run_after { run.new ≡ next_of run.old Event.Fence result }
 {
+    let counts = run.counts;
     let next = counted(counts, Finding::None);
     let epoch = num::wrapping_add_u16(counts.fences, 1);
-    writes::close_lines(fenced, stored, backed, counts, next.events);
-    intervals::close_epochs(closed, fenced, counts, next.events, epoch);
-    Stepped {
-        answer: Ok(Finding::None),
-        counts: Counts {
-            fences: epoch,
-            fence: next.events,
-            ..next
-        },
-    }
+    writes::close_lines(
+        &mut run.fenced,
+        &run.stored,
+        &run.backed,
+        counts,
+        next.events,
+    );
+    intervals::close_epochs(&mut run.closed, &run.fenced, counts, next.events, epoch);
+    run.counts = Counts {
+        fences: epoch,
+        fence: next.events,
+        ..next
+    };
+    Finding::None
 }
 
 // A begin: one transaction more is open; where none was, this is the outermost.
-fn begin(counts: Counts) -> Stepped
-    requires { (counts.events < 65535) × (counts.depth < 8) }
-    ensures { result ≡ stepped_for counts Event.Begin Finding.None }
+fn begin<const E: usize>(run: &mut Run<E>) -> Finding
+    requires { (run.old.counts.events < 65535) × (run.old.counts.depth < 8) }
+    ensures value { result ≡ finding_by (of_run run.old) Event.Begin }
+    ensures run_after { run.new ≡ next_of run.old Event.Begin result }
 {
+    let counts = run.counts;
     let next = counted(counts, Finding::None);
-    Stepped {
-        answer: Ok(Finding::None),
-        counts: Counts {
-            depth: counts.depth + 1,
-            begin: tables::begin_after(counts.depth, counts.begin, next.events),
-            ..next
-        },
-    }
+    run.counts = Counts {
+        depth: counts.depth + 1,
+        begin: tables::begin_after(counts.depth, counts.begin, next.events),
+        ..next
+    };
+    Finding::None
 }
 
 // A log: the last of its bytes.
-fn log(counts: Counts, logged: &mut [u16; 4096], a: Range) -> Stepped
-    requires { (counts.events < 65535) × (range_end a ≤ 4096) }
-    ensures value { result ≡ stepped_for counts (Event.Log a) (finding_by (of_run (run_of counts [] logged.old [] [] [] [] [] [])) (Event.Log a)) }
-    ensures logged_after { logged.new ≡ filled_bytes (next_number counts) a logged.old }
+fn log<const E: usize>(run: &mut Run<E>, a: Range) -> Finding
+    requires { (run.old.counts.events < 65535) × (range_end a ≤ 4096) }
+    ensures value { result ≡ finding_by (of_run run.old) (Event.Log a) }
+    ensures run_after { run.new ≡ next_of run.old (Event.Log a) result }
 {
-    let finding = findings::of_log(counts, logged, a);
-    let next = counted(counts, finding);
-    writes::fill_bytes(logged, a, next.events);
-    Stepped {
-        answer: Ok(finding),
-        counts: next,
-    }
+    let finding = findings::of_log(run.counts, &run.logged, a);
+    let next = counted(run.counts, finding);
+    writes::fill_bytes(&mut run.logged, a, next.events);
+    run.counts = next;
+    finding
 }
 
 // An end: one transaction less is open.
-fn end(
-    counts: Counts,
-    stored: &[u16; 4096],
-    fenced: &[u16; 4096],
-    dirtied: &[u16; 64],
-    backed: &[u16; 64],
-) -> Stepped
-    requires { (counts.events < 65535) × (1 ≤ counts.depth) }
-    ensures { result ≡
-        stepped_for counts Event.End
-        (ended_at (next_number counts) counts stored.now fenced.now dirtied.now backed.now) }
+fn end<const E: usize>(run: &mut Run<E>) -> Finding
+    requires { (run.old.counts.events < 65535) × (1 ≤ run.old.counts.depth) }
+    ensures value { result ≡ finding_by (of_run run.old) Event.End }
+    ensures run_after { run.new ≡ next_of run.old Event.End result }
 {
-    let finding = findings::of_end(counts.events + 1, counts, stored, fenced, dirtied, backed);
-    let next = counted(counts, finding);
-    Stepped {
-        answer: Ok(finding),
-        counts: Counts {
-            depth: counts.depth - 1,
-            ..next
-        },
-    }
+    let counts = run.counts;
+    let finding = findings::of_end(
+        counts.events + 1,
+        counts,
+        &run.stored,
+        &run.fenced,
+        &run.dirtied,
+        &run.backed,
+    );
+    run.counts = Counts {
+        depth: counts.depth - 1,
+        ..counted(counts, finding)
+    };
+    finding
 }
 
 // A persisted: it changes no table.
-fn persisted(
-    counts: Counts,
-    stored: &[u16; 4096],
-    fenced: &[u16; 4096],
-    dirtied: &[u16; 64],
-    backed: &[u16; 64],
-    a: Range,
-) -> Stepped
-    requires { (counts.events < 65535) × (range_end a ≤ 4096) }
-    ensures { result ≡
-        stepped_for counts (Event.Persisted a)
-        (durable_at (next_number counts) stored.now
-        (lowest_in
-        (open_byte counts.fence stored.now fenced.now dirtied.now backed.now)
-        a)) }
+fn persisted<const E: usize>(run: &mut Run<E>, a: Range) -> Finding
+    requires { (run.old.counts.events < 65535) × (range_end a ≤ 4096) }
+    ensures value { result ≡ finding_by (of_run run.old) (Event.Persisted a) }
+    ensures run_after { run.new ≡ next_of run.old (Event.Persisted a) result }
 {
+    let counts = run.counts;
     let finding = findings::of_persisted(
         counts.events + 1,
         counts.fence,
-        stored,
-        fenced,
-        dirtied,
-        backed,
+        &run.stored,
+        &run.fenced,
+        &run.dirtied,
+        &run.backed,
         a,
     );
-    Stepped {
-        answer: Ok(finding),
-        counts: counted(counts, finding),
-    }
+    run.counts = counted(counts, finding);
+    finding
 }
 
 // An ordered: it changes no table.
-fn ordered(
-    counts: Counts,
-    stored: &[u16; 4096],
-    fenced: &[u16; 4096],
-    a: Range,
-    b: Range,
-) -> Stepped
-    requires { (counts.events < 65535) × (range_end a ≤ 4096) × (range_end b ≤ 4096) }
-    ensures { result ≡
-        stepped_for counts (Event.Ordered a b)
-        (finding_by
-        (of_run (run_of (no_counts 0) stored.now [] fenced.now [] [] [] [] []))
-        (Event.Ordered a b)) }
+fn ordered<const E: usize>(run: &mut Run<E>, a: Range, b: Range) -> Finding
+    requires { (run.old.counts.events < 65535) × (range_end a ≤ 4096) × (range_end b ≤ 4096) }
+    ensures value { result ≡ finding_by (of_run run.old) (Event.Ordered a b) }
+    ensures run_after { run.new ≡ next_of run.old (Event.Ordered a b) result }
 {
-    let finding = findings::of_ordered(stored, fenced, a, b);
-    Stepped {
-        answer: Ok(finding),
-        counts: counted(counts, finding),
-    }
+    let finding = findings::of_ordered(&run.stored, &run.fenced, a, b);
+    run.counts = counted(run.counts, finding);
+    finding
 }
 
-// An event that no limit refuses: its finding, and the numbers and tables after it.
-fn accept(
-    counts: Counts,
-    stored: &mut [u16; 4096],
-    logged: &mut [u16; 4096],
-    fenced: &mut [u16; 4096],
-    opened: &mut [u16],
-    closed: &mut [u16],
-    written: &mut [u16],
-    dirtied: &mut [u16; 64],
-    backed: &mut [u16; 64],
-    e: Event,
-) -> Stepped
-    requires { refusal_by (limits_of counts) e ≡ Ok tt }
-    ensures { outcome_of result stored.new logged.new fenced.new opened.new closed.new
-        written.new dirtied.new backed.new ≡
-        given_for (Ok tt)
-        (run_of counts stored.old logged.old fenced.old opened.old closed.old
-        written.old dirtied.old backed.old)
-        e }
+// An event that no limit refuses: its finding, and the run after it.
+fn accept<const E: usize>(run: &mut Run<E>, e: Event) -> Finding
+    requires { refusal_by (limits_of run.old.counts) e ≡ Ok tt }
+    ensures value { result ≡ finding_by (of_run run.old) e }
+    ensures run_after { run.new ≡ next_of run.old e result }
 {
     match e {
-        Event::Store(a) => store(counts, stored, logged, opened, dirtied, a),
-        Event::WriteBack(a) => write_back(counts, stored, written, dirtied, backed, a),
-        Event::Fence => fence(counts, stored, fenced, closed, backed),
-        Event::Begin => begin(counts),
-        Event::Log(a) => log(counts, logged, a),
-        Event::End => end(counts, stored, fenced, dirtied, backed),
-        Event::Persisted(a) => persisted(counts, stored, fenced, dirtied, backed, a),
-        Event::Ordered(a, b) => ordered(counts, stored, fenced, a, b),
+        Event::Store(a) => store(run, a),
+        Event::WriteBack(a) => write_back(run, a),
+        Event::Fence => fence(run),
+        Event::Begin => begin(run),
+        Event::Log(a) => log(run, a),
+        Event::End => end(run),
+        Event::Persisted(a) => persisted(run, a),
+        Event::Ordered(a, b) => ordered(run, a, b),
     }
 }
 
-// Refused by the first of 9, 18, 10 to 12 that applies, with numbers and tables as they were; or the finding, and the numbers and
-// tables after the event.
-pub fn step(
-    counts: Counts,
-    stored: &mut [u16; 4096],
-    logged: &mut [u16; 4096],
-    fenced: &mut [u16; 4096],
-    opened: &mut [u16],
-    closed: &mut [u16],
-    written: &mut [u16],
-    dirtied: &mut [u16; 64],
-    backed: &mut [u16; 64],
-    r: Record,
-) -> Stepped
-    ensures { outcome_of result stored.new logged.new fenced.new opened.new closed.new
-        written.new dirtied.new backed.new ≡
-        give_of
-        (run_of counts stored.old logged.old fenced.old opened.old closed.old
-        written.old dirtied.old backed.old)
-        r }
+// Refused by the first of 9, 18, 10 to 12 that applies, and the run as it was; or the finding, and the run after the event.
+pub fn step<const E: usize>(run: &mut Run<E>, r: Record) -> Result<Finding, Refusal>
+    ensures answer { result ≡ (give_of run.old r).answer }
+    ensures run_after { run.new ≡ (give_of run.old r).run }
 {
-    let e = r.event;
-    match limits::check_event(tables::lines_of(counts), counts.events, counts.depth, e) {
-        Err(x) => {
-            let unchanged = counts;
-            Stepped {
-                answer: Err(x),
-                counts: unchanged,
-            }
-        }
-        Ok(()) => {
-            accept(
-                counts, stored, logged, fenced, opened, closed, written, dirtied, backed, e,
-            )
-        }
-    }
+    let counts = run.counts;
+    limits::check_event(
+        tables::lines_of(counts),
+        counts.events,
+        counts.depth,
+        r.event,
+    )?;
+    Ok(accept(run, r.event))
 }

@@ -6,7 +6,7 @@ use Rattle.event.specs.declared.Refusal.TheVariants.{NoByteClosed}
 use Rattle.event.specs.Numbers.{number_of}
 use Rattle.event.specs.Reply.{Reply}
 use Rattle.window.specs.Window.{window_bytes}
-use Rattle.tables.specs.declared.Run.{Run}
+use Rattle.tables.specs.Run.{Run}
 use Rattle.tables.specs.View.{interval_in, of_run}
 use Rattle.exposure.specs.Answers.{Exposed, mean}
 use Rattle.exposure.specs.declared.Sums.{Sums}

@@ -2,12 +2,12 @@
 #![tactic(auto)]
 
 ghost use Rattle.std.specs.Prelude.{◌≡◌, ◌-◌, ◌*◌, ◌≤◌};
-ghost use Rattle.tables.specs.View.{lines_of, interval_in};
+ghost use Rattle.tables.specs.View.{interval_in};
 ghost use Rattle.tables.specs.Table.{table_bytes};
-ghost use Rattle.exposure.specs.Exposure.{most_epochs, epochs_at_risk, is_closed, one_if_closed, sums_of, mean_of, exposure_in, exposure_of};
+ghost use Rattle.exposure.specs.Exposure.{most_epochs, epochs_at_risk, is_closed, one_if_closed, sums_of, mean_of, exposure_of};
 
 use event::{Interval, Refusal};
-use tables::{Counts, Run};
+use tables::Run;
 
 // A mean: quotient × divisor + remainder epochs, over `divisor` bytes.
 #[derive(Clone, Copy)]
@@ -90,29 +90,11 @@ fn mean_of(epochs: u32, bytes: u16) -> Result<Mean, Refusal>
     })
 }
 
-// The mean exposure of a run whose numbers and tables the caller lends.
-pub fn exposure_of(
-    counts: Counts,
-    stored: &[u16; 4096],
-    fenced: &[u16; 4096],
-    opened: &[u16; 4096],
-    closed: &[u16; 4096],
-) -> Result<Mean, Refusal>
-    ensures { result ≡ exposure_in (lines_of counts) (interval_in stored.now fenced.now opened.now closed.now) }
-{
-    let bytes = 64 * tables::lines_of(counts);
-    let s = sum_bytes(bytes, stored, fenced, opened, closed);
-    mean_of(s.epochs, s.bytes)
-}
-
 // The mean exposure of a run. The run may go on.
-pub fn exposure(run: Run) -> Result<Mean, Refusal>
-    ensures { result ≡ exposure_of run }
+pub fn exposure(run: &Run<4096>) -> Result<Mean, Refusal>
+    ensures { result ≡ exposure_of run.now }
 {
-    let counts = run.counts;
-    let stored = run.stored;
-    let fenced = run.fenced;
-    let opened = run.opened;
-    let closed = run.closed;
-    exposure_of(counts, &stored, &fenced, &opened, &closed)
+    let bytes = 64 * tables::lines_of(run.counts);
+    let s = sum_bytes(bytes, &run.stored, &run.fenced, &run.opened, &run.closed);
+    mean_of(s.epochs, s.bytes)
 }

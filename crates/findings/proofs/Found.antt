@@ -15,7 +15,7 @@ use Rattle.window.specs.Window.{line_of, word_of}
 use Rattle.ranges.specs.Ranges.{line_count}
 use Rattle.history.specs.Found.{Pair, lowest, lowest_in, lowest_pair, found_or, unlogged, clean, written_twice, warned_line, at_risk, breaks, in_order, finding_by}
 use Rattle.tables.specs.declared.Counts.{Counts}
-use Rattle.tables.specs.declared.Run.{Run}
+use Rattle.tables.specs.Run.{Run}
 use Rattle.tables.specs.Table.{entry}
 use Rattle.tables.specs.View.{run_of, no_counts, since_store, open_line, of_run}
 use Rattle.tables.proofs.SinceStore.{open_at}

@@ -1,24 +1,32 @@
 -- The verdict and the area from where the records lead, for either outcome of their check.
-use Rattle.std.specs.Prelude.{Ok}
-use mathlib.Core.Path.{◌≡◌}
+use Rattle.std.specs.Prelude.{Ok, Err}
+use mathlib.Core.Path.{◌≡◌, ap, ◌∙◌}
 use mathlib.Core.List.{List, ◌++◌}
 use Prim.Native.Nat.{ℕ}
 use lib.ListN.{take, drop}
-use Rattle.event.specs.declared.Refusal.{Refusal}
-use Rattle.event.proofs.Laws.{equal_by}
-use Rattle.tables.specs.declared.Counts.{Counts}
-use Rattle.trace.specs.Answers.{TraceCheck}
-use Rattle.pass.specs.Pass.{Result}
+use Rattle.event.specs.declared.TraceRefusal.{TraceRefusal}
+use Rattle.event.specs.Answers.{totals}
+use Rattle.record_step.specs.Step.{Stage}
+use Rattle.pass.specs.Pass.{Passed}
+use Rattle.pass.proofs.Bare.{bare_passed}
 use Rattle.judge.specs.Ends.{verdict_by, area_by}
-use Rattle.event.specs.Answers.{refused_at, totals}
 
-module _ (e : Result) (size : ℕ) (area : List ℕ) {check : TraceCheck} (is : check ≡ e.check) where
+module _ (size : ℕ) (area : List ℕ) (e : Passed) {given : Passed} (same : given ≡ bare_passed e) where
+  same_check : given.check ≡ e.check
+  same_check = ap (λ (e : Passed). e.check) same
+
   -- a refusal
-  pub ends_refused : {x : Refusal} {n : ℕ} → check ≡ refused_at x n → (refused_at x n ≡ verdict_by e) × (area ≡ area_by size e area)
-  ends_refused k = let known = equal_by is k in (rw known, rw known)
+  pub ends_refused : {r : TraceRefusal} → Err r ≡ given.check → (Err r ≡ verdict_by e) × (area ≡ area_by size e area)
+  ends_refused k = let known = k ∙ same_check in (rw (← known), rw (← known))
 
   -- none: the totals, and the buffer in front of the area
-  pub ends_passed : {counts : Counts} {buffer next : List ℕ} → check ≡ (Ok tt) → counts ≡ e.stage.run.counts → buffer ≡ e.stage.buffer →
-      next ≡ take size buffer ++ drop size area →
-      (totals counts.events counts.fences counts.findings ≡ verdict_by e) × (next ≡ area_by size e area)
-  ends_passed k totals held copied = let known = equal_by is k in (rw (known, totals), rw known (rw held at copied))
+  pub ends_passed : Ok tt ≡ given.check → {end : Stage} → end ≡ given.stage → {front : List ℕ} → front ≡ take size end.buffer →
+      (totals end.run.counts.events end.run.counts.fences end.run.counts.findings ≡ verdict_by e) × (front ++ drop size area ≡ area_by size e area)
+  ends_passed k held copied =
+      let known = k ∙ same_check in
+      let there = held ∙ ap (λ (e : Passed). e.stage) same in
+      (rw (← known, there), rw (← known, copied, there))
+
+-- the buffer
+pub ends_buffer : (e : Passed) {given : Passed} → given ≡ bare_passed e → {end : Stage} → end ≡ given.stage → end.buffer ≡ e.stage.buffer
+ends_buffer e same held = ap (λ (s : Stage). s.buffer) (held ∙ ap (λ (e : Passed). e.stage) same)

@@ -14,21 +14,20 @@ use Rattle.trailer.proofs.Written.{opened}
 use Rattle.verdict.specs.Verdict.{area_size, trace_check, verdict_of, area_after}
 use Rattle.verdict.proofs.Order.{records_decide, window_fits}
 use Rattle.verdict.proofs.Outcome.{rejected, totalled, area_holds, all_counted}
-use Rattle.pass.specs.Pass.{Result, all_judged}
+use Rattle.pass.specs.Pass.{Passed, all_judged}
 use Rattle.pass.proofs.Whole.{Judged, judged_check, judged}
 use Rattle.judge.specs.Ends.{verdict_from, verdict_by, area_from, area_by}
-use Rattle.event.specs.Answers.{refused_at}
 
 module _ (s area : List ℕ) where
   -- what the code finds of the records, in the part of the trace where they are, with a buffer that has room for their findings
   module _ {t : Trailer} (known : opened_of s ≡ Ok t) (fits : finding_size * t.count ≤ length area)
       {part : List ℕ} (is : part ≡ record_part t.offset s) (buffer : List ℕ) (room : finding_size * t.count ≤ length buffer) where
     -- where the records of the part lead
-    abbrev end : Result
+    abbrev end : Passed
     end = all_judged t.count t.lines part buffer
 
     -- they are those of the trace
-    abbrev in_trace : Result
+    abbrev in_trace : Passed
     in_trace = all_judged (trailer_of s).count (lines_in s) (record_part (trailer_of s).offset s) buffer
 
     same_end : end ≡ in_trace

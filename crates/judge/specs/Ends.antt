@@ -3,8 +3,8 @@ use Rattle.std.specs.Prelude.{cond, List, ◌++◌, ℕ, leb, take, drop, replic
 use Rattle.trace.specs.Answers.{TraceCheck}
 use Rattle.verdict.specs.Answers.{Verdict}
 use Rattle.record_step.specs.Step.{Stage}
-use Rattle.pass.specs.Pass.{Result}
-use Rattle.event.specs.Answers.{refused_at, totals}
+use Rattle.pass.specs.Pass.{Passed}
+use Rattle.event.specs.Answers.{totals}
 
 -- the bytes of the longest trace without its trailer: as many as the findings of its records take at most
 abbrev pub long_buffer : ℕ
@@ -19,7 +19,7 @@ abbrev pub verdict_from : TraceCheck → Stage → Verdict
 verdict_from (Err r) s = Err r
 verdict_from (Ok _) s = totals s.run.counts.events s.run.counts.fences s.run.counts.findings
 
-abbrev pub verdict_by : Result → Verdict
+abbrev pub verdict_by : Passed → Verdict
 verdict_by e = verdict_from e.check e.stage
 
 -- the area after them: as it was, or with so many bytes of the buffer in front
@@ -27,5 +27,5 @@ abbrev pub area_from : TraceCheck → ℕ → (buffer area : List ℕ) → List 
 area_from (Err r) size buffer area = area
 area_from (Ok _) size buffer area = take size buffer ++ drop size area
 
-abbrev pub area_by : ℕ → Result → List ℕ → List ℕ
+abbrev pub area_by : ℕ → Passed → List ℕ → List ℕ
 area_by size e area = area_from e.check size e.stage.buffer area

@@ -13,10 +13,10 @@ use Rattle.records.specs.Record.{parsed, record_size}
 use Rattle.trace.specs.Records.{records_of}
 use Rattle.trace.proofs.RecordsNext.{records_next}
 use Rattle.record_step.specs.Step.{Stage, record_answer, record_given}
-use Rattle.pass.specs.Pass.{Result, result, closing, records_judged}
+use Rattle.pass.specs.Pass.{Passed, result, closing, records_judged}
 
 -- where the records after the first i lead
-abbrev pub left_judged : (records : List ℕ) (count i : ℕ) → Stage → Result
+abbrev pub left_judged : (records : List ℕ) (count i : ℕ) → Stage → Passed
 left_judged records count i s = records_judged (records_of (count - i) (drop (record_size * i) records)) (i + 1) (finding_size * i) s
 
 -- one record given: where it is refused, all end there, and else they go on with the others

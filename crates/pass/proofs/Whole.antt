@@ -21,7 +21,7 @@ use Rattle.history.specs.View.{of_history}
 use Rattle.history.specs.Refused.{refusal_by}
 use Rattle.history.specs.Found.{finding_by}
 use Rattle.history.specs.Given.{answer_for, answer_of, accepted, answers, reported}
-use Rattle.tables.specs.declared.Run.{Run}
+use Rattle.tables.specs.Run.{Run}
 use Rattle.tables.specs.View.{of_run}
 use Rattle.events.specs.Give.{next_of, give_of}
 use Rattle.engine.specs.Call.{empty_run}

@@ -10,11 +10,11 @@ use Rattle.trace.specs.Records.{records_of}
 use Rattle.record_step.specs.Step.{Stage, stage, record_answer, record_given}
 
 -- where the records lead, and whether one of them is refused, or the closing
-pub record Result : Type 0 where
+pub record Passed : Type 0 where
   pub check : TraceCheck
   pub stage : Stage
 
-abbrev pub result : TraceCheck → Stage → Result
+abbrev pub result : TraceCheck → Stage → Passed
 result check stage = record { check = check; stage = stage }
 
 -- the closing: 13 where a transaction is open
@@ -22,20 +22,20 @@ abbrev pub closing : Stage → TraceCheck
 closing s = cond (eqb s.run.counts.depth 0) (Ok tt) (refused_at TransactionOpen 0)
 
 -- a record with this number that got this answer: it is refused, or the others are given
-abbrev pub after_answer : Answer → ℕ → Stage → Result → Result
+abbrev pub after_answer : Answer → ℕ → Stage → Passed → Passed
 after_answer (Err x) n s others = result (refused_at x n) s
 after_answer (Ok f) n s others = others
 
 -- the records from number n on, the first finding at a place
-unfoldable pub records_judged : List Parsed → (n at : ℕ) → Stage → Result
+unfoldable pub records_judged : List Parsed → (n at : ℕ) → Stage → Passed
 records_judged [] n at s = result (closing s) s
 records_judged (p ∷ rest) n at s =
     after_answer (record_answer p s) n (record_given p at s) (records_judged rest (suc n) (at + finding_size) (record_given p at s))
 
 -- so many records, the first finding at the start of the buffer
-abbrev pub records_given : (count : ℕ) (records : List ℕ) → Stage → Result
+abbrev pub records_given : (count : ℕ) (records : List ℕ) → Stage → Passed
 records_given count records s = records_judged (records_of count records) 1 0 s
 
 -- from a fresh window of so many lines
-abbrev pub all_judged : (count lines : ℕ) (records buffer : List ℕ) → Result
+abbrev pub all_judged : (count lines : ℕ) (records buffer : List ℕ) → Passed
 all_judged count lines records buffer = records_given count records (stage (empty_run lines) buffer)

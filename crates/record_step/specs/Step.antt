@@ -3,7 +3,7 @@ use Rattle.std.specs.Prelude.{List, ℕ, Ok, Err}
 use Rattle.event.specs.Answers.{Answer, Parsed}
 use Rattle.codec.specs.Codec.{finding_bytes}
 use Rattle.codec.specs.Placed.{placed}
-use Rattle.tables.specs.declared.Run.{Run}
+use Rattle.tables.specs.Run.{Run}
 use Rattle.events.specs.Give.{give_of}
 
 -- the buffer with an event's finding at a place

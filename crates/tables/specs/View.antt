@@ -1,5 +1,5 @@
 -- The questions of a judge (`View`), answered by a run.
-use Rattle.std.specs.Prelude.{Bool, cond, ◌&&◌, ◌||◌, List, ℕ, min, eqb, leb, ltb}
+use Rattle.std.specs.Prelude.{Bool, cond, ◌&&◌, ◌||◌, List, ℕ, replicate, min, eqb, leb, ltb}
 use Rattle.event.specs.declared.Range.{Range}
 use Rattle.event.specs.declared.Event.TheVariants.{Store}
 use Rattle.event.specs.declared.Interval.{Interval}
@@ -12,7 +12,7 @@ use Rattle.history.specs.History.{stores_some}
 use Rattle.history.specs.View.{View}
 use Rattle.limits.specs.Limits.{numbers_of}
 use Rattle.tables.specs.declared.Counts.{Counts}
-use Rattle.tables.specs.declared.Run.{Run}
+use Rattle.tables.specs.Run.{Run}
 use Rattle.tables.specs.Table.{entry}
 
 -- the run with these numbers and these tables
@@ -33,6 +33,12 @@ run_of counts stored logged fenced opened closed written dirtied backed =
 -- no event yet
 abbrev pub no_counts : ℕ → Counts
 no_counts lines = record { lines = lines; events = 0; fences = 0; findings = 0; depth = 0; begin = 0; store = 0; fence = 0 }
+
+-- the run in which nothing has happened, with so many entries for the epochs and the first write-backs
+abbrev pub fresh_run : (entries lines : ℕ) → Run
+fresh_run entries lines =
+    run_of (no_counts lines) (replicate 4096 0) (replicate 4096 0) (replicate 4096 0) (replicate entries 0) (replicate entries 0)
+    (replicate entries 0) (replicate 64 0) (replicate 64 0)
 
 -- the window's lines, at most those of the largest window: so no run leads past the end of a table
 abbrev pub lines_of : Counts → ℕ

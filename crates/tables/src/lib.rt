@@ -3,9 +3,10 @@
 
 ghost use Rattle.std.specs.Prelude.{◌≡◌};
 ghost use Rattle.tables.specs.Table.{in_tables};
-ghost use Rattle.tables.specs.View.{no_counts, lines_of, begin_after, store_after, line_open, since_store, interval_from, named_from};
+ghost use Rattle.tables.specs.View.{no_counts, fresh_run, lines_of, begin_after, store_after, line_open, since_store, interval_from, named_from};
 
 use event::{Interval, NamedInterval, Range};
+use std::marker::Model;
 
 // The numbers of a run. Event numbers start at 1, and 0 stands for none.
 #[derive(Clone, Copy)]
@@ -21,20 +22,62 @@ pub struct Counts {
 }
 
 // A run: its numbers, six tables over the bytes of the largest window and two over its lines. Findings go by the events alone. The epochs
-// and the first write-backs are what the answer of a byte asked has besides. Where a byte is stored to again, its entries of the earlier
-// store stay: a closing fence and a write-back older than the last store count for nothing, and so does the closing epoch then.
+// and the first write-backs are what the answer of a byte asked has besides, and a run of which no byte is asked has none of their `E`
+// entries. Where a byte is stored to again, its entries of the earlier store stay: a closing fence and a write-back older than the last
+// store count for nothing, and so does the closing epoch then.
 // stays: 0 and no Option for none, since the tables begin as `[0; 4096]`, the form of document 01 (docs/DECISIONS.md), and specs/ goes by it
 #[derive(Clone, Copy)]
-pub struct Run {
+pub struct Run<const E: usize> {
     pub counts: Counts,
     pub stored: [u16; 4096], // a byte's last store
     pub logged: [u16; 4096], // a byte's last log
     pub fenced: [u16; 4096], // the fence that closed its interval
-    pub opened: [u16; 4096], // the epoch at which its interval opened
-    pub closed: [u16; 4096], // the epoch at which it closed
-    pub written: [u16; 4096], // the first write-back of its line after its last store
+    pub opened: [u16; E], // the epoch at which its interval opened
+    pub closed: [u16; E], // the epoch at which it closed
+    pub written: [u16; E], // the first write-back of its line after its last store
     pub dirtied: [u16; 64], // the last store to a line
     pub backed: [u16; 64], // the last write-back of a line
+}
+
+// Clauses see a run as one record, however many entries it has.
+impl<const E: usize> Model for Run<E> {
+    ghost use Rattle.tables.specs.Run.{Run};
+    ghost use Rattle.tables.specs.View.{run_of};
+
+    ghost Value = { Run };
+
+    ghost view = { λ r. run_of r.counts r.stored r.logged r.fenced r.opened r.closed r.written r.dirtied r.backed };
+
+    ghost inverse = { λ r. record {
+      counts = r.counts;
+      stored = r.stored;
+      logged = r.logged;
+      fenced = r.fenced;
+      opened = r.opened;
+      closed = r.closed;
+      written = r.written;
+      dirtied = r.dirtied;
+      backed = r.backed;
+    } };
+}
+
+impl<const E: usize> Run<E> {
+    // A run in which nothing has happened.
+    pub fn fresh(lines: u16) -> Self
+        ensures { result ≡ fresh_run E lines }
+    {
+        Run {
+            counts: no_counts(lines),
+            stored: [0; 4096],
+            logged: [0; 4096],
+            fenced: [0; 4096],
+            opened: [0; E],
+            closed: [0; E],
+            written: [0; E],
+            dirtied: [0; 64],
+            backed: [0; 64],
+        }
+    }
 }
 
 // The numbers of a run in which nothing has happened.

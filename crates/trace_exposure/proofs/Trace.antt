@@ -20,7 +20,7 @@ use Rattle.trace.specs.Records.{record_part, lines_in, records_in, events_in}
 use Rattle.trace.specs.Checked.{unless_broken, check_all}
 use Rattle.verdict.specs.Verdict.{file_check, history_of}
 use Rattle.verdict.proofs.Order.{not_opened, window_fits}
-use Rattle.pass.specs.Pass.{Result, all_judged}
+use Rattle.pass.specs.Pass.{Passed, all_judged}
 use Rattle.pass.proofs.Whole.{judged_check, judged_run}
 use Rattle.trace_exposure.specs.TraceExposure.{unless_refused, trace_exposure_of, exposure_by}
 
@@ -34,7 +34,7 @@ module _ (s : List ℕ) where
   -- else the records decide, in the part of the trace where they are
   module _ {t : Trailer} (known : opened_of s ≡ Ok t) {part : List ℕ} (is : part ≡ record_part t.offset s) where
     -- where the records of the trace lead
-    abbrev in_trace : Result
+    abbrev in_trace : Passed
     in_trace = all_judged (trailer_of s).count (lines_in s) (record_part (trailer_of s).offset s) []
 
     same_end : all_judged t.count t.lines part [] ≡ in_trace

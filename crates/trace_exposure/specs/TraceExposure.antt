@@ -3,12 +3,12 @@ use Rattle.std.specs.Prelude.{List, [], ◌∷◌, ℕ, Ok, Err}
 use Rattle.event.specs.Numbers.{number_of}
 use Rattle.event.specs.Reply.{Reply}
 use Rattle.history.specs.Interval.{interval_of}
-use Rattle.exposure.specs.Answers.{Exposed, mean}
+use Rattle.exposure.specs.Answers.{Exposed}
 use Rattle.exposure.specs.Exposure.{exposure_in, exposure_of}
 use Rattle.trace.specs.Answers.{TraceCheck}
 use Rattle.trace.specs.Records.{lines_in}
 use Rattle.verdict.specs.Verdict.{file_check, history_of}
-use Rattle.pass.specs.Pass.{Result}
+use Rattle.pass.specs.Pass.{Passed}
 use Rattle.trace_exposure.specs.Answers.{TraceExposure}
 use Rattle.event.specs.Answers.{refused_at}
 
@@ -26,7 +26,7 @@ unfoldable pub trace_exposure_of : List ℕ → TraceExposure
 trace_exposure_of trace = unless_refused (file_check trace) (exposure_in (lines_in trace) (interval_of (history_of trace)))
 
 -- the answer from where the records lead, as the code goes over them
-abbrev pub exposure_by : Result → TraceExposure
+abbrev pub exposure_by : Passed → TraceExposure
 exposure_by e = unless_refused e.check (exposure_of e.stage.run)
 
 -- the answer in the paper's numbers

@@ -1,25 +1,22 @@
 -- The answer from where the records lead, for either outcome of their check.
-use Rattle.std.specs.Prelude.{Ok}
-use mathlib.Core.Path.{◌≡◌, ap, ◌∙◌}
+use Rattle.std.specs.Prelude.{Ok, Err}
+use mathlib.Core.Path.{◌≡◌}
 use mathlib.Core.List.{List}
 use Prim.Native.Nat.{ℕ}
-use Rattle.event.specs.Answers.{Parsed, refused_at}
-use Rattle.event.specs.declared.Refusal.{Refusal}
-use Rattle.event.proofs.Laws.{equal_by}
+use Rattle.event.specs.Answers.{Parsed}
+use Rattle.event.specs.declared.TraceRefusal.{TraceRefusal}
 use Rattle.engine.specs.Answers.{Asked}
 use Rattle.engine.specs.Call.{ask_of}
-use Rattle.trace.specs.Answers.{TraceCheck}
 use Rattle.record_step.specs.Step.{Stage}
-use Rattle.pass.specs.Pass.{Result}
-use Rattle.trace_interval.specs.Answers.{TraceInterval}
+use Rattle.pass.specs.Pass.{Passed}
 use Rattle.trace_interval.specs.TraceInterval.{with_sites, interval_by}
 
-module _ (records : List Parsed) (e : Result) (byte : ℕ) {check : TraceCheck} (is : check ≡ e.check) where
+module _ (records : List Parsed) (byte : ℕ) {given e : Passed} (same : given ≡ e) where
   -- a refusal
-  pub ends_refused : {x : Refusal} {n : ℕ} → check ≡ refused_at x n → refused_at x n ≡ interval_by records e byte
-  ends_refused k = let known = equal_by is k in rw known
+  pub ends_refused : {r : TraceRefusal} → Err r ≡ given.check → Err r ≡ interval_by records e byte
+  ends_refused k = rw (← same, ← k)
 
   -- none: what the run answers
-  pub ends_passed : check ≡ (Ok tt) → {end : Stage} → end ≡ e.stage → {asked : Asked} → asked ≡ ask_of end.run byte → {r : TraceInterval} →
-      r ≡ with_sites records asked → r ≡ interval_by records e byte
-  ends_passed k held asked answered = let known = equal_by is k in rw (known, ← held) (answered ∙ ap (with_sites records) asked)
+  pub ends_passed : Ok tt ≡ given.check → {end : Stage} → end ≡ given.stage → {asked : Asked} → asked ≡ ask_of end.run byte →
+      with_sites records asked ≡ interval_by records e byte
+  ends_passed k held asked = rw (← same, ← k, ← held, ← asked)

@@ -11,7 +11,7 @@ use Rattle.event.specs.declared.Refusal.TheVariants.{PastWindow}
 use Rattle.ranges.specs.Ranges.{is_past}
 use Rattle.history.specs.View.{View}
 use Rattle.history.proofs.Given.{none_broken}
-use Rattle.tables.specs.declared.Run.{Run}
+use Rattle.tables.specs.Run.{Run}
 use Rattle.engine.specs.Call.{ask_of}
 use Rattle.engine.proofs.ByEntries.{same_named}
 use Rattle.engine.proofs.Link.{same_view, tracks}
@@ -23,7 +23,7 @@ use Rattle.trace.specs.Records.{record_part, records_of, lines_in, records_in, e
 use Rattle.trace.specs.Checked.{unless_broken, check_all}
 use Rattle.verdict.specs.Verdict.{file_check, history_of}
 use Rattle.verdict.proofs.Order.{not_opened, window_fits}
-use Rattle.pass.specs.Pass.{Result, all_judged}
+use Rattle.pass.specs.Pass.{Passed, all_judged}
 use Rattle.pass.proofs.Whole.{judged_check, judged_run}
 use Rattle.trace_interval.specs.Answers.{TraceInterval}
 use Rattle.trace_interval.specs.TraceInterval.{with_sites, unless_refused, asked_after, trace_interval_of, interval_by}
@@ -41,7 +41,7 @@ module _ (s : List ℕ) (byte : ℕ) where
   -- else the records decide, in the part of the trace where they are
   module _ {t : Trailer} (known : opened_of s ≡ Ok t) {part : List ℕ} (is : part ≡ record_part t.offset s) where
     -- where the records of the trace lead
-    abbrev in_trace : Result
+    abbrev in_trace : Passed
     in_trace = all_judged (trailer_of s).count (lines_in s) (record_part (trailer_of s).offset s) []
 
     same_end : interval_by (records_of t.count part) (all_judged t.count t.lines part []) byte ≡ interval_by (records_in s) in_trace byte

@@ -15,7 +15,7 @@ use Rattle.engine.specs.Call.{ask_of}
 use Rattle.trace.specs.Answers.{TraceCheck}
 use Rattle.trace.specs.Records.{lines_in, records_in}
 use Rattle.verdict.specs.Verdict.{file_check, history_of}
-use Rattle.pass.specs.Pass.{Result}
+use Rattle.pass.specs.Pass.{Passed}
 use Rattle.trace_interval.specs.declared.Sites.{Sites}
 use Rattle.trace_interval.specs.Answers.{TraceInterval, sited}
 
@@ -66,7 +66,7 @@ unfoldable pub trace_interval_of : List ℕ → ℕ → TraceInterval
 trace_interval_of trace byte = unless_refused (file_check trace) (with_sites (records_in trace) (asked_after (lines_in trace) (history_of trace) byte))
 
 -- the answer from where the records lead, as the code goes over them
-abbrev pub interval_by : List Parsed → Result → ℕ → TraceInterval
+abbrev pub interval_by : List Parsed → Passed → ℕ → TraceInterval
 interval_by records e byte = unless_refused e.check (with_sites records (ask_of e.stage.run byte))
 
 -- the sites of the events named, in the order of the events

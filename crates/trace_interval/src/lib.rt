@@ -4,9 +4,9 @@
 ghost use Rattle.std.specs.Prelude.{◌≡◌, []};
 ghost use Rattle.trace.specs.Records.{records_of};
 ghost use Rattle.pass.specs.Pass.{all_judged};
-ghost use Rattle.trace_interval.specs.TraceInterval.{site_in, sites_in, with_sites, interval_by, trace_interval_of};
+ghost use Rattle.trace_interval.specs.TraceInterval.{site_in, sites_in, interval_by, trace_interval_of};
 
-use event::{NamedInterval, Refusal, TraceRefusal};
+use event::{NamedInterval, TraceRefusal};
 use tables::Run;
 use trailer::opening;
 
@@ -75,26 +75,6 @@ fn sites_of(records: &[u8], count: u32, i: NamedInterval) -> Sites
     }
 }
 
-// What the run after the records of a trace answers, with the sites.
-fn answer(
-    records: &[u8],
-    count: u32,
-    a: Result<NamedInterval, Refusal>,
-) -> Result<SitedInterval, TraceRefusal>
-    ensures { result ≡ with_sites (records_of count records.now) a }
-{
-    match a {
-        Err(refusal) => Err(TraceRefusal {
-            refusal: refusal,
-            at: 0,
-        }),
-        Ok(interval) => Ok(SitedInterval {
-            interval,
-            sites: sites_of(records, count, interval),
-        }),
-    }
-}
-
 // The records given to a fresh window, and the run after them asked. No finding is kept: the buffer has no byte.
 fn records_interval(
     records: &[u8],
@@ -105,64 +85,19 @@ fn records_interval(
     ensures { result ≡
         interval_by (records_of count records.now) (all_judged count lines records.now []) byte }
 {
-    let mut stored = [0u16; 4096];
-    let mut logged = [0u16; 4096];
-    let mut fenced = [0u16; 4096];
-    let mut opened = [0u16; 4096];
-    let mut closed = [0u16; 4096];
-    let mut written = [0u16; 4096];
-    let mut dirtied = [0u16; 64];
-    let mut backed = [0u16; 64];
-    let mut buffer = [0u8; 0];
-    let j = pass::give_records(
-        records,
-        count,
-        tables::no_counts(lines),
-        &mut stored,
-        &mut logged,
-        &mut fenced,
-        &mut opened,
-        &mut closed,
-        &mut written,
-        &mut dirtied,
-        &mut backed,
-        &mut buffer,
-    );
-    let check = j.check;
-    let counts = j.counts;
-    match check {
-        Err(
-            TraceRefusal {
-                refusal,
-                at: record,
-            },
-        ) => Err(TraceRefusal {
-            refusal,
-            at: record,
-        }),
-        Ok(()) => {
-            let run = Run {
-                counts,
-                stored,
-                logged,
-                fenced,
-                opened,
-                closed,
-                written,
-                dirtied,
-                backed,
-            };
-            answer(records, count, engine::ask(run, byte))
-        }
-    }
+    let mut run = Run::fresh(lines);
+    pass::give_records(records, count, &mut run, &mut [])?;
+    let interval = engine::ask(&run, byte)?;
+    Ok(SitedInterval {
+        interval,
+        sites: sites_of(records, count, interval),
+    })
 }
 
 // The interval of a byte after a trace, or the first of 1 to 13 that applies, and then 9 for a byte past the window.
 pub fn interval(trace: &[u8], byte: u16) -> Result<SitedInterval, TraceRefusal>
     ensures { result ≡ trace_interval_of trace.now byte }
 {
-    match opening::open(trace) {
-        Err(x) => Err(TraceRefusal { refusal: x, at: 0 }),
-        Ok(t) => { records_interval(trace::part(trace, t.offset), t.count, t.lines, byte) }
-    }
+    let t = opening::open(trace)?;
+    records_interval(trace::part(trace, t.offset), t.count, t.lines, byte)
 }

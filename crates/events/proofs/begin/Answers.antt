@@ -1,8 +1,13 @@
 -- `events::begin` meets its contract: the numbers with one more event, and the outermost begin that its call ensures.
 use Rattle.std.proofs.Common.{add-one}
-use Rattle.events.specs.Next.{counts_after}
+use Rattle.history.specs.Found.{finding_by}
+use Rattle.events.specs.Next.{counts_after, tables_after}
 use Rattle.events.proofs.begin.Goals as goal
 
-pub returns : goal.returns
-unfolding counts_after
-returns c = rw (c.begin_after.ensures, c.counted-next.ensures, add-one)
+pub returns-clause-value : goal.returns-clause-value
+unfolding finding_by
+returns-clause-value g c = cc
+
+pub returns-clause-run_after : goal.returns-clause-run_after
+unfolding counts_after tables_after
+returns-clause-run_after g c = rw (← c.run.view_is, c.begin_after.ensures, c.counted-next.ensures, add-one)

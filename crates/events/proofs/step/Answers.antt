@@ -1,13 +1,26 @@
--- The check of the limits and the accepted event make up the outcome.
+-- The check of the limits and the accepted event make up what is given.
 use Rattle.std.proofs.Common.{sym}
-use Rattle.events.proofs.Steps.{step_refused, step_taken}
+use Rattle.std.proofs.lemmas.Result.{err_from_is_err_and}
+use Rattle.events.proofs.Steps.{by_check}
 use Rattle.events.proofs.step.Goals as goal
 
-pub returns-in-Err : goal.returns-in-Err
-returns-in-Err c = step_refused _ c.args.r (sym (rw c.lines_of.ensures at c.in-Err.ensures))
+pub returns-in_err-check_event-clause-answer : goal.returns-in_err-check_event-clause-answer
+returns-in_err-check_event-clause-answer g c =
+    let p = err_from_is_err_and c.from_residual.result c.from_residual.ensures.1 in
+    let refused = sym (rw c.lines_of.ensures at c.in_err-check_event.ensures) in
+    rw (p.1, p.2, by_check c.args.run.now c.args.r c.run.view_is refused)
 
-pub accept-requires : goal.accept-requires
-accept-requires c = sym (rw c.lines_of.ensures at c.in-Ok.ensures)
+pub returns-in_err-check_event-clause-run_after : goal.returns-in_err-check_event-clause-run_after
+returns-in_err-check_event-clause-run_after g c =
+    let refused = sym (rw c.lines_of.ensures at c.in_err-check_event.ensures) in
+    rw (by_check c.args.run.now c.args.r c.run.view_is refused)
 
-pub returns-in-Ok : goal.returns-in-Ok
-returns-in-Ok c = step_taken _ c.args.r (sym (rw c.lines_of.ensures at c.in-Ok.ensures)) c.accept.ensures
+pub returns-clause-answer : goal.returns-clause-answer
+returns-clause-answer g c =
+    let taken = sym (rw c.lines_of.ensures at c.in_ok-check_event.ensures) in
+    rw (c.accept.ensures.value, by_check c.args.run.now c.args.r c.run.view_is taken)
+
+pub returns-clause-run_after : goal.returns-clause-run_after
+returns-clause-run_after g c =
+    let taken = sym (rw c.lines_of.ensures at c.in_ok-check_event.ensures) in
+    rw (c.accept.ensures.run_after, c.accept.ensures.value, by_check c.args.run.now c.args.r c.run.view_is taken)

@@ -1,30 +1,37 @@
 -- The records that are left lead to where all of them lead: one that is refused ends them, one that is not leads on, and where none is
 -- left the closing follows.
-use mathlib.Core.Path.{ap, ◌∙◌}
-use native.Mathlib.Omega.{arith}
-use Rattle.pass.specs.Pass.{Result}
+use Rattle.std.proofs.Common.{ap, ◌∙◌, arith}
+use Rattle.pass.specs.Pass.{Passed}
 use Rattle.pass.proofs.RecordsLeft.{refused_here, next_judged, closed_here, all_left}
 use Rattle.pass.proofs.give_records.Goals as goal
 
-pub returns-in-Err : goal.returns-in-Err
-returns-in-Err c =
+pub returns-in-Err-clause-check_value : goal.returns-in-Err-clause-check_value
+returns-in-Err-clause-check_value g c =
     let k = c.args in
-    let s = c.judge_record-s.ensures in
-    let here = refused_here k.records.now k.count c.loop-i.i _ (omega arith) c.record_at.ensures s.answer_value s.buffer_after c.in-Err.is in
-    let all = here ∙ c.loop-i.invariant.1 ∙ all_left k.records.now k.count _ in
-    record { check_value = ap (λ (e : Result). e.check) all; buffer_after = ap (λ (e : Result). e.stage) all }
+    let s = c.judge_record.ensures in
+    let here = refused_here k.records.now k.count c.loop-i.i _ (omega arith) c.record_at-p.ensures s.answer_value s.buffer_after c.in-Err.is in
+    ap (λ (e : Passed). e.check) (here ∙ c.loop-i.invariant ∙ all_left k.records.now k.count _)
+
+pub returns-in-Err-clause-buffer_after : goal.returns-in-Err-clause-buffer_after
+returns-in-Err-clause-buffer_after g c =
+    let k = c.args in
+    let s = c.judge_record.ensures in
+    let here = refused_here k.records.now k.count c.loop-i.i _ (omega arith) c.record_at-p.ensures s.answer_value s.buffer_after c.in-Err.is in
+    ap (λ (e : Passed). e.stage) (here ∙ c.loop-i.invariant ∙ all_left k.records.now k.count _)
 
 pub loop-i-preserved : goal.loop-i-preserved
-loop-i-preserved c =
+loop-i-preserved g c =
     let k = c.args in
-    let s = c.judge_record-s.ensures in
-    (omega arith, next_judged k.records.now k.count c.loop-i.i _ (omega arith) c.record_at.ensures s.answer_value s.buffer_after c.in-Ok.is ∙ c.loop-i.invariant.1)
+    let s = c.judge_record.ensures in
+    next_judged k.records.now k.count c.loop-i.i _ (omega arith) c.record_at-p.ensures s.answer_value s.buffer_after c.in_default.is ∙ c.loop-i.invariant
 
-pub returns : goal.returns
-returns c =
+pub returns-clause-check_value : goal.returns-clause-check_value
+returns-clause-check_value g c =
     let k = c.args in
-    let all = closed_here k.records.now k.count c.loop-i.i _ _ (omega arith) c.loop-i.invariant.1 in
-    record {
-      check_value = c.close-check.ensures ∙ ap (λ (e : Result). e.check) all;
-      buffer_after = ap (λ (e : Result). e.stage) all;
-    }
+    let all = closed_here k.records.now k.count c.loop-i.i _ _ (omega arith) c.loop-i.invariant in
+    c.close.ensures ∙ rw (← c.run.view_is) at (ap (λ (e : Passed). e.check) all)
+
+pub returns-clause-buffer_after : goal.returns-clause-buffer_after
+returns-clause-buffer_after g c =
+    let k = c.args in
+    ap (λ (e : Passed). e.stage) (closed_here k.records.now k.count c.loop-i.i _ _ (omega arith) c.loop-i.invariant)

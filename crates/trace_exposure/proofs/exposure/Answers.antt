@@ -1,10 +1,13 @@
 -- `trace_exposure::exposure` meets its contract: the trailer decides, and then the records.
 use mathlib.Core.Path.{sym, ◌∙◌}
+use Rattle.std.proofs.lemmas.Result.{err_from_is_err_and}
 use Rattle.trace_exposure.proofs.Trace.{refused_trailer, trace_exposure}
 use Rattle.trace_exposure.proofs.exposure.Goals as goal
 
-pub returns-in-Err : goal.returns-in-Err
-returns-in-Err c = refused_trailer c.args.trace.now (sym c.in-Err.ensures)
+pub returns-in_err-t : goal.returns-in_err-t
+returns-in_err-t c =
+    let p = err_from_is_err_and c.from_residual.result c.from_residual.ensures.1 in
+    rw (p.1, p.2) (refused_trailer c.args.trace.now (sym c.in_err-t.ensures))
 
-pub returns-in-Ok : goal.returns-in-Ok
-returns-in-Ok c = c.records_exposure.ensures ∙ trace_exposure c.args.trace.now (sym c.in-Ok.ensures) c.part.ensures
+pub returns : goal.returns
+returns c = c.records_exposure.ensures ∙ trace_exposure c.args.trace.now (sym c.in_ok-t.ensures) c.part.ensures
