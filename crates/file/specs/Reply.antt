@@ -2,8 +2,7 @@
 use Rattle.std.specs.Prelude.{[], ◌∷◌, Ok, Err}
 use Rattle.event.specs.Numbers.{number_of}
 use Rattle.event.specs.Reply.{Reply, check_reply}
-use Rattle.file.specs.Answers.{Started, Closed}
-use Rattle.file.specs.declared.Written.{Written}
+use Rattle.file.specs.Answers.{Started, Written, Closed}
 
 -- a start: it has no values
 abbrev pub start_reply : Started → Reply
