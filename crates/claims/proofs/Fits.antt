@@ -222,7 +222,7 @@ taken_finding lines h r {f} e = go (first_broken limits) (checked limits) e
 
     go : (c : Check) → Checked limits c → answer_for c (finding_by (of_history lines h) r.event) ≡ Ok f →
         (f ≡ finding_by (of_history lines h) r.event) × (any_range (is_past lines) (ranges_of r.event) ≡ false)
-    go (Ok tt) (Checked.none k) e = (cc, inside k)
+    go (Ok _) (Checked.none k) e = (cc, inside k)
     go (Err x) (Checked.first k) e = let z : ◌≡◌ {A = ℕ} 0 1 = cc in absurd (omega arith)
 
 all_bytes : {lines : ℕ} {h : History} {records : List Parsed} → window_bytes lines ≤ 65535 → AllFound lines h records → AllSites (events_of records) →

@@ -94,7 +94,7 @@ module _ (trace : List ℕ) where
       same_refusal : {number at : ℕ} (c : TraceCheck) → file_check trace ≡ c → trace_check trace area ≡ c →
           verdict_reply (verdict_of trace area) ≡ Reply.refused number at → answer ≡ Reply.refused number at
       same_refusal (Err r) f t e = stopped r.refusal r.at f ∙ sym (ap verdict_reply (refuses trace area t)) ∙ e
-      same_refusal (Ok tt) f t e = absurd (not_refused (ap verdict_reply (totalled trace area t)) e)
+      same_refusal (Ok _) f t e = absurd (not_refused (ap verdict_reply (totalled trace area t)) e)
 
       pub judge_refuses : (number at : ℕ) → verdict_reply (verdict_of trace area) ≡ Reply.refused number at → number ≢ 14 → answer ≡ Reply.refused number at
       judge_refuses number at e other = go (area_aside trace area)
@@ -108,7 +108,7 @@ module _ (trace : List ℕ) where
     accepted_check totals e = go (area_aside trace area) (file_check trace) refl
       where
         go : (trace_check trace area ≡ file_check trace) ⊎ (trace_check trace area ≡ refused_at AreaTooShort 0) → (c : TraceCheck) → file_check trace ≡ c → file_check trace ≡ Ok tt
-        go (inl same) (Ok tt) f = f
+        go (inl same) (Ok _) f = f
         go (inl same) (Err r) f = absurd (not_refused e (ap verdict_reply (refuses trace area (same ∙ f))))
         go (inr short) c f = absurd (not_refused e (ap verdict_reply (refuses trace area short)))
 

@@ -87,7 +87,7 @@ module _ (trace area totals : List ℕ) (accepted : verdict_reply (verdict_of tr
     where
       go : (c : TraceCheck) → trace_check trace area ≡ c → verdict_reply (verdict_for c (history_of trace) (answers_of trace)) ≡ Reply.values totals →
           trace_check trace area ≡ Ok tt
-      go (Ok tt) e k = e
+      go (Ok _) e k = e
       go (Err r) e k = let z : ◌≡◌ {A = ℕ} 0 1 = cc in absurd (omega arith)
 
   found : AllFound (lines_in trace) [] (records_in trace)

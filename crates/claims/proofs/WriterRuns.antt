@@ -52,7 +52,7 @@ module _ (room : ℕ) (preamble : List ℕ) (lines : ℕ) where
     step : (c : WriterCall) → ((g : History) (next : List ℕ) → Holds room preamble lines g next → LeadsTo g next calls) → (d : Check) →
         first_broken (call_limits room free lines h c) ≡ d → Checked (call_limits room free lines h c) d → LeadsTo h area (c ∷ calls)
     unfolding written_by
-    step c go (Ok tt) p (Checked.none n) =
+    step c go (Ok _) p (Checked.none n) =
         let l = lays room preamble lines h area k c n in
         led c (history_after c h) (laid (place_after free h) l.bytes area) (Reply.values (call_values free h c)) l.answer l.left
         (ap (λ (d : Check). written_by room free lines (unless_refused d (history_after c h) h) calls) p)

@@ -50,7 +50,7 @@ use Rattle.claims.proofs.WriterRuns.{LeadsTo, leads, one_writer_run}
 use Rattle.claims.proofs.WriterLimits.{from_bytes_lem}
 
 -- records of accepted events pass, and those after them decide
-map_append : (events more : List Record) → map Ok (events ++ more) ≡ map Ok events ++ map Ok more
+map_append : (events more : List Record) → map {B = Parsed} Ok (events ++ more) ≡ map Ok events ++ map Ok more
 map_append [] more = refl
 map_append (r ∷ events) more = ap (λ (l : List Parsed). Ok r ∷ l) (map_append events more)
 
@@ -163,7 +163,7 @@ module _ (room : ℕ) (preamble : List ℕ) (lines : ℕ) (window : bad_lines li
     where
       go : (d : Check) → Checked (call_limits room (length preamble) lines h c) d →
           ((x : Refusal) × Stays room preamble lines h area k c x) ⊎ Lays room preamble lines h area k c
-      go (Ok tt) (Checked.none n) = inr (lays room preamble lines h area k c n)
+      go (Ok _) (Checked.none n) = inr (lays room preamble lines h area k c n)
       go (Err x) (Checked.first n) = inl (x, stays room preamble lines h area k c n)
 
   -- so a refused call changes nothing, and another leaves every other byte as it was
@@ -205,7 +205,7 @@ module _ (room : ℕ) (preamble : List ℕ) (lines : ℕ) (window : bad_lines li
     where
       go : (c : Check) → first_broken (close_limits room at (depth h)) ≡ c → Checked (close_limits room at (depth h)) c →
           NoneBroken (close_limits room at (depth h))
-      go (Ok tt) p (Checked.none n) = n
+      go (Ok _) p (Checked.none n) = n
       go (Err x) p (Checked.first n) = absurd (not_refused e (closing_reply_lem room preamble lines h area k p))
 
   closed_file : (size : ℕ) → Closes now size → take size (writing_next now WriterCall.closes).area ≡ trace_bytes preamble (reverse h) lines
@@ -256,7 +256,7 @@ module _ (room : ℕ) (preamble : List ℕ) (lines : ℕ) (window : bad_lines li
     where
       go : (c : Check) → first_broken (write_limits room at (of_history lines h) r.event) ≡ c → Checked (write_limits room at (of_history lines h) r.event) c →
           NoneBroken (write_limits room at (of_history lines h) r.event)
-      go (Ok tt) p (Checked.none n) = n
+      go (Ok _) p (Checked.none n) = n
       go (Err x) p (Checked.first n) = absurd (not_refused e (event_reply room preamble lines h next l r p))
 
   after_closing_lem : (r : Record) (size : ℕ) → let g = writing_next now WriterCall.closes in

@@ -85,7 +85,7 @@ history_after WriterCall.closes h = h
 
 -- a refused call leaves them as they were
 abbrev pub unless_refused : Check → (next h : History) → History
-unless_refused (Ok tt) next h = next
+unless_refused (Ok _) next h = next
 unless_refused (Err x) next h = h
 
 -- the accepted events after the calls, the newest first

@@ -60,12 +60,19 @@ fn tally(answer: Result<Totals, TraceRefusal>, area: &[u8], answers: &mut [u32],
     ensures kinds_after { kinds.new ≡ kinds_in answer area.now kinds.old }
 {
     match answer {
-        Err(TraceRefusal { refusal: refusal, at: _ }) => count(answers, numbers::number(refusal)),
-        Ok(Totals {
-            events,
-            fences: _,
-            findings: _,
-        }) => {
+        Err(
+            TraceRefusal {
+                refusal: refusal,
+                at: _,
+            },
+        ) => count(answers, numbers::number(refusal)),
+        Ok(
+            Totals {
+                events,
+                fences: _,
+                findings: _,
+            },
+        ) => {
             count(answers, 0);
             count_kinds(kinds, area, events);
         }

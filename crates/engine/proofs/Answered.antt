@@ -31,6 +31,6 @@ answered lines h run r same = go (refusal_by (of_history lines h) r.event) refl 
     given c e = ap (λ (c : Check). given_for c run r.event) (ap (λ (v : View). refusal_by v r.event) same ∙ e)
 
     go : (c : Check) → refusal_by (of_history lines h) r.event ≡ c → Checked (limits_by (of_history lines h) r.event) c → Answered lines h run r
-    go (Ok tt) e (Checked.none k) =
+    go (Ok _) e (Checked.none k) =
         Answered.found k (answer_found lines h r k ∙ ap (λ (v : View). Ok (finding_by v r.event)) (sym same)) (given (Ok tt) e)
     go (Err x) e (Checked.first k) = Answered.refused (answer_refused lines h r k) (given (Err x) e)

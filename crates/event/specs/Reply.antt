@@ -15,7 +15,7 @@ pub data Reply : Type 0 where
 
 -- a check of limits: it has no values
 abbrev pub check_reply : Check → Reply
-check_reply (Ok tt) = Reply.values []
+check_reply (Ok _) = Reply.values []
 check_reply (Err x) = Reply.refused (number_of x) 0
 
 -- a finding: kind, lost, kept, moment, store

@@ -33,6 +33,6 @@ give_bare run r = go (refusal_by (of_run run) r.event)
   where
     go : (c : Check) → given_for c (bare run) r.event ≡ bare_given (given_for c run r.event)
     go (Err x) = refl
-    go (Ok tt) =
+    go (Ok _) =
         let f = finding_by (of_run run) r.event in
         ap (λ (next : Run). record { answer = Ok f; run = next }) (next_bare run r.event f)

@@ -33,7 +33,7 @@ stepped_for counts e f = record { answer = Ok f; counts = counts_after counts e 
 
 -- an event given: refused, and the run as it was; or its finding, and the next run
 abbrev pub given_for : Check → Run → Event → Given
-given_for (Ok tt) run e = record { answer = Ok (finding_by (of_run run) e); run = next_of run e (finding_by (of_run run) e) }
+given_for (Ok _) run e = record { answer = Ok (finding_by (of_run run) e); run = next_of run e (finding_by (of_run run) e) }
 given_for (Err x) run e = record { answer = Err x; run = run }
 
 unfoldable pub give_of : Run → Record → Given

@@ -30,7 +30,7 @@ view_of w = numbers_of w.lines w.count w.depth
 
 -- the area with these bytes at a place, where the check passes
 abbrev pub area_for : Check → (at : ℕ) → (bytes area : List ℕ) → List ℕ
-area_for (Ok tt) at bytes area = laid at bytes area
+area_for (Ok _) at bytes area = laid at bytes area
 area_for (Err x) at bytes area = area
 
 -- a start: the preamble goes to the area's start
@@ -38,7 +38,7 @@ abbrev pub start_check : (area preamble : List ℕ) (lines : ℕ) → Check
 start_check area preamble lines = first_broken (start_limits (length area) (length preamble) lines)
 
 abbrev pub started_for : Check → Writer → Started
-started_for (Ok tt) w = Ok w
+started_for (Ok _) w = Ok w
 started_for (Err x) w = Err x
 
 abbrev pub started_of : (area preamble : List ℕ) (lines : ℕ) → Started
@@ -52,7 +52,7 @@ abbrev pub writer_after : Writer → Event → Writer
 writer_after w e = writer_with w.lines w.offset (suc w.count) (depth_after e w.depth)
 
 abbrev pub written_for : Check → Writer → Event → Written
-written_for (Ok tt) w e = record { check = (Ok tt); writer = writer_after w e }
+written_for (Ok _) w e = record { check = (Ok tt); writer = writer_after w e }
 written_for (Err x) w e = record { check = Err x; writer = w }
 
 -- its record goes behind the last one
@@ -96,7 +96,7 @@ abbrev pub close_check : (room : ℕ) → Writer → Check
 close_check room w = first_broken (close_limits room (records_end w) w.depth)
 
 abbrev pub closed_for : Check → ℕ → Closed
-closed_for (Ok tt) length = Ok length
+closed_for (Ok _) length = Ok length
 closed_for (Err x) length = Err x
 
 abbrev pub closed_of : (area : List ℕ) → Writer → Closed

@@ -38,7 +38,7 @@ checked (x ∷ xs) = go x.broken refl (first_broken xs) (checked xs)
   where
     go : (b : Bool) → x.broken ≡ b → (c : Check) → Checked xs c → Checked (x ∷ xs) (cond b (Err x.number) c)
     go true e c k = Checked.first (First.here e)
-    go false e (Ok tt) (Checked.none k) = Checked.none (NoneBroken.cons e k)
+    go false e (Ok _) (Checked.none k) = Checked.none (NoneBroken.cons e k)
     go false e (Err y) (Checked.first k) = Checked.first (First.later e k)
 
 -- so the answer to an event is the number that applies first, or its finding
@@ -99,7 +99,7 @@ claim_from lines h (r ∷ given) inside =
         (Inside lines h → ClaimRun lines h given (map answer_reply (answers lines h given))) →
         (Inside lines (r ∷ h) → ClaimRun lines (r ∷ h) given (map answer_reply (answers lines (r ∷ h) given))) →
         ClaimRun lines h (r ∷ given) (map answer_reply (answer_for c f ∷ answers lines (after (answer_for c f) r h) given))
-    go (Ok tt) (Checked.none k) refused taken = ClaimRun.takes f k (finding_claim lines h inside r) (taken (inside_taken lines h r inside k))
+    go (Ok _) (Checked.none k) refused taken = ClaimRun.takes f k (finding_claim lines h inside r) (taken (inside_taken lines h r inside k))
     go (Err x) (Checked.first k) refused taken = ClaimRun.refuses k (refused inside)
 
 -- the answers to every list of given events, from the run of every asked line count, meet the claim

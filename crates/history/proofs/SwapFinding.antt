@@ -136,7 +136,7 @@ module _ (a b : Record) (older : History) (m : MaySwap a.event b.event) {h k : H
   answer_moved r = ap₂ answer_for (refusal_same r.event) (finding_moved r.event) ∙ go (refusal_by before r.event) (finding_by before r.event)
     where
       go : (c : Check) (f : Finding) → answer_for c (renamed ex f) ≡ renamed_answer ex (answer_for c f)
-      go (Ok tt) f = refl
+      go (Ok _) f = refl
       go (Err x) f = refl
 
 -- a search by two tests that agree on what it looks at

@@ -15,7 +15,7 @@ use Rattle.history.specs.Claim.{Claim}
 
 -- the lines of the run that a fresh window asked with this line count hands over: one line where it is refused
 abbrev pub window_for : Check → ℕ → ℕ
-window_for (Ok tt) asked = asked
+window_for (Ok _) asked = asked
 window_for (Err x) asked = 1
 
 -- the lines of the window
@@ -24,7 +24,7 @@ window_of asked = window_for (lines_check asked) asked
 
 -- the refusal, or the finding where the check of the limits passed
 abbrev pub answer_for : Check → Finding → Answer
-answer_for (Ok tt) f = Ok f
+answer_for (Ok _) f = Ok f
 answer_for (Err x) f = Err x
 
 -- after the history the event is refused by this number, or by none

@@ -54,7 +54,7 @@ module _ (s area : List ℕ) where
     decided : (c : TraceCheck) → trace_check s area ≡ c →
         (verdict_from c in_trace.stage ≡ verdict_of s area) × (area_from c (area_size s) in_trace.stage.buffer area ≡ area_after s area)
     decided (Err r) k = rejected s area k
-    decided (Ok tt) k =
+    decided (Ok _) k =
         let j = leaves k in (
           rw (j.events, j.fences, j.findings) (sym (totalled s area k)),
           ap (λ (front : List ℕ). front ++ drop (area_size s) area) (ap (λ (n : ℕ). take (finding_size * n) in_trace.stage.buffer) (sym (all_counted s)) ∙ j.buffer) ∙

@@ -17,7 +17,7 @@ buffer_for count = replicate (cond (leb count 340) 4080 long_buffer) 0
 -- the verdict after them: the refusal, or the totals of the run
 abbrev pub verdict_from : TraceCheck → Stage → Verdict
 verdict_from (Err r) s = Err r
-verdict_from (Ok tt) s = totals s.run.counts.events s.run.counts.fences s.run.counts.findings
+verdict_from (Ok _) s = totals s.run.counts.events s.run.counts.fences s.run.counts.findings
 
 abbrev pub verdict_by : Result → Verdict
 verdict_by e = verdict_from e.check e.stage
@@ -25,7 +25,7 @@ verdict_by e = verdict_from e.check e.stage
 -- the area after them: as it was, or with so many bytes of the buffer in front
 abbrev pub area_from : TraceCheck → ℕ → (buffer area : List ℕ) → List ℕ
 area_from (Err r) size buffer area = area
-area_from (Ok tt) size buffer area = take size buffer ++ drop size area
+area_from (Ok _) size buffer area = take size buffer ++ drop size area
 
 abbrev pub area_by : ℕ → Result → List ℕ → List ℕ
 area_by size e area = area_from e.check size e.stage.buffer area

@@ -9,7 +9,7 @@ use Rattle.history.specs.Refused.{Limit, NoneBroken, first_broken}
 
 -- the first part decides where it refuses, and else the rest does
 abbrev either : Check → Check → Check
-either (Ok tt) c = c
+either (Ok _) c = c
 either (Err x) c = Err x
 
 in_parts : (part rest : List Limit) → first_broken (part ++ rest) ≡ either (first_broken part) (first_broken rest)

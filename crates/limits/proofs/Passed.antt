@@ -21,7 +21,7 @@ pub passed_unbroken : (limits : List Limit) → first_broken limits ≡ (Ok tt) 
 passed_unbroken limits e = go (first_broken limits) (checked limits) e
   where
     go : (c : Check) → Checked limits c → c ≡ (Ok tt) → NoneBroken limits
-    go (Ok tt) (Checked.none k) f = k
+    go (Ok _) (Checked.none k) f = k
     go (Err x) (Checked.first k) f = let z : ◌≡◌ {A = ℕ} 0 1 = cc in absurd (omega arith)
 
 -- what the limits say of an event that passes

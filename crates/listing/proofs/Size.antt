@@ -69,7 +69,7 @@ unfolding report_of verdict_of
 report_size trace area = go (trace_check trace area) refl
   where
     go : (c : TraceCheck) → trace_check trace area ≡ c → length (report_for (verdict_reply (verdict_for c (history_of trace) (answers_of trace))) trace) ≤ longest_report
-    go (Ok tt) e =
+    go (Ok _) e =
         let given = events_in trace in
         let found = answers_of trace in
         parts_size (head_line (length (history_of trace)) (lines_in trace)) (finding_lines 1 given found) (foot_line (reported found))

@@ -32,17 +32,19 @@ fn put_report(trace: &[u8], area: &mut [u8], text: &mut [u8]) -> usize
     ensures result_after { out text.new result ≡ put (report_of trace.now area.old) (out text.old 0) }
 {
     match judge::judge(trace, area) {
-        Err(TraceRefusal { refusal, at: record }) => lines::refusal(
-            text,
-            0,
-            numbers::number(refusal),
-            record,
-        ),
-        Ok(Totals {
-            events,
-            fences: _,
-            findings,
-        }) => put_listing(text, trace, area, events, findings),
+        Err(
+            TraceRefusal {
+                refusal,
+                at: record,
+            },
+        ) => lines::refusal(text, 0, numbers::number(refusal), record),
+        Ok(
+            Totals {
+                events,
+                fences: _,
+                findings,
+            },
+        ) => put_listing(text, trace, area, events, findings),
     }
 }
 

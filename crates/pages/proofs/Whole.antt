@@ -62,7 +62,7 @@ pub record IsWritten (findings : List ℕ) (room n : ℕ) : Type 0 where
   pub fits : length (pages_of findings) ≤ room
 
 unless_written : (c : Check) (position : ℕ) (rest : Paged) {n : ℕ} → unless_broken c position rest ≡ Ok n → (c ≡ (Ok tt)) × (rest ≡ Ok n)
-unless_written (Ok tt) position rest e = (refl, e)
+unless_written (Ok _) position rest e = (refl, e)
 unless_written (Err x) position rest e = let z : ◌≡◌ {A = ℕ} 0 1 = cc in absurd (omega arith)
 
 undamaged_written : (before count : ℕ) (findings : List ℕ) (rest : Paged) {n : ℕ} → unless_damaged before count findings rest ≡ Ok n → rest ≡ Ok n

@@ -10,7 +10,7 @@ use Rattle.pages.specs.Limits.{whole_limits, damage_limits, room_limits}
 
 -- where a check passes, the rest decides; where it does not, the area is refused at this position
 abbrev pub unless_broken : Check → ℕ → Paged → Paged
-unless_broken (Ok tt) position rest = rest
+unless_broken (Ok _) position rest = rest
 unless_broken (Err x) position rest = refused_finding x position
 
 -- so many findings after the first ones: the first damaged one, by its position from 1; where none is, the rest decides

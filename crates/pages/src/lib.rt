@@ -32,7 +32,11 @@ fn damage(findings: &[u8], before: u16) -> Result<(), Refusal>
 }
 
 // The refusal of the first damaged finding of so many; the answer given, where none is damaged.
-fn unless_damaged(findings: &[u8], count: u16, answer: Result<u32, PageRefusal>) -> Result<u32, PageRefusal>
+fn unless_damaged(
+    findings: &[u8],
+    count: u16,
+    answer: Result<u32, PageRefusal>,
+) -> Result<u32, PageRefusal>
     ensures { result ≡ unless_damaged 0 count findings.now answer }
 {
     let mut i: u16 = 0;
@@ -123,10 +127,12 @@ pub fn pages(findings: &[u8], area: &mut [u8]) -> Result<u32, PageRefusal>
 {
     let answer = checked(findings, area.len());
     match answer {
-        Err(PageRefusal {
-            refusal: _,
-            position: _,
-        }) => {}
+        Err(
+            PageRefusal {
+                refusal: _,
+                position: _,
+            },
+        ) => {}
         Ok(_) => {
             let count = findings_in(findings);
             let shown = count_shown(findings, count);

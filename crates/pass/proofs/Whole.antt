@@ -44,7 +44,7 @@ unfolding answer_of
 refused_check lines h r {x} a = go (refusal_by (of_history lines h) r.event) a
   where
     go : (c : Check) → answer_for c (finding_by (of_history lines h) r.event) ≡ Err x → c ≡ Err x
-    go (Ok tt) k = let z : ◌≡◌ {A = ℕ} 0 1 = cc in absurd (omega arith)
+    go (Ok _) k = let z : ◌≡◌ {A = ℕ} 0 1 = cc in absurd (omega arith)
     go (Err y) k = cc
 
 found_check : (lines : ℕ) (h : History) (r : Record) {f : Finding} → answer_of lines h r ≡ Ok f → refusal_by (of_history lines h) r.event ≡ Ok tt
@@ -52,7 +52,7 @@ unfolding answer_of
 found_check lines h r {f} a = go (refusal_by (of_history lines h) r.event) a
   where
     go : (c : Check) → answer_for c (finding_by (of_history lines h) r.event) ≡ Ok f → c ≡ Ok tt
-    go (Ok tt) k = refl
+    go (Ok _) k = refl
     go (Err y) k = let z : ◌≡◌ {A = ℕ} 0 1 = cc in absurd (omega arith)
 
 -- where the pass over records ends that no limit refuses: the run after their events, and their findings in the buffer from a place on

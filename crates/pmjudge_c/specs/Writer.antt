@@ -30,7 +30,7 @@ after_start (Ok w) n = writer_numbers w
 after_start (Err x) n = n
 
 abbrev pub after_check : Check → Writer → List ℕ → List ℕ
-after_check (Ok tt) w n = writer_numbers w
+after_check (Ok _) w n = writer_numbers w
 after_check (Err x) w n = n
 
 abbrev pub after_event : Written → List ℕ → List ℕ

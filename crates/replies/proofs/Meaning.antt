@@ -5,6 +5,7 @@ use mathlib.Core.List.{[], ◌∷◌}
 use Rattle.event.specs.declared.Finding.TheVariants.{OutOfOrder}
 use Rattle.event.specs.declared.NamedInterval.TheVariants.{Closed}
 use Rattle.event.specs.declared.Refusal.TheVariants.{PastWindow}
+use Rattle.event.specs.declared.TraceRefusal.{TraceRefusal}
 use Rattle.event.specs.Reply.{answer_reply}
 use Rattle.verdict.specs.Verdict.{verdict_reply}
 use Rattle.trace_interval.specs.TraceInterval.{sites, trace_interval_reply}
@@ -13,8 +14,8 @@ use Rattle.event.specs.Answers.{refused_at, totals}
 use Rattle.trace_interval.specs.Answers.{sited}
 
 -- a trace refused by 9 at its third record: number and record, and no value
-refused_at : numbers_of (verdict_reply (refused_at PastWindow 3)) ≡ record { number = 9; at = 3; count = 0; values = 0 ∷ 0 ∷ 0 ∷ 0 ∷ 0 ∷ 0 ∷ 0 ∷ 0 ∷ [] }
-refused_at = refl
+refused_by_nine : numbers_of (verdict_reply (refused_at PastWindow 3)) ≡ record { number = 9; at = 3; count = 0; values = 0 ∷ 0 ∷ 0 ∷ 0 ∷ 0 ∷ 0 ∷ 0 ∷ 0 ∷ [] }
+refused_by_nine = refl
 
 -- the whole run of document 01: nine events, two fences, four findings
 whole_run_lem : numbers_of (verdict_reply (totals 9 2 4)) ≡ record { number = 0; at = 0; count = 3; values = 9 ∷ 2 ∷ 4 ∷ 0 ∷ 0 ∷ 0 ∷ 0 ∷ 0 ∷ [] }
@@ -25,6 +26,6 @@ fifth_event : numbers_of (answer_reply (Ok (OutOfOrder 0 64 2 1))) ≡ record { 
 fifth_event = refl
 
 -- a closed interval: its epochs, store, write-back and fence, and the sites of these three
-closed_interval : numbers_of (trace_interval_reply (sited (Closed 1 3 4 7 9) (sites 5 8 11))) ≡
+closed_interval : numbers_of (trace_interval_reply (sited {E = TraceRefusal} (Closed 1 3 4 7 9) (sites 5 8 11))) ≡
     record { number = 0; at = 0; count = 8; values = 1 ∷ 3 ∷ 4 ∷ 7 ∷ 9 ∷ 5 ∷ 8 ∷ 11 ∷ [] }
 closed_interval = refl

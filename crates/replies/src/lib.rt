@@ -190,11 +190,13 @@ pub fn of_closing(c: Result<Totals, Refusal>) -> Numbers
 {
     match c {
         Err(x) => refused(x, 0),
-        Ok(Totals {
-            events,
-            fences,
-            findings,
-        }) => three(events, fences, findings),
+        Ok(
+            Totals {
+                events,
+                fences,
+                findings,
+            },
+        ) => three(events, fences, findings),
     }
 }
 
@@ -204,11 +206,13 @@ pub fn of_exposed(e: Result<Mean, Refusal>) -> Numbers
 {
     match e {
         Err(x) => refused(x, 0),
-        Ok(Mean {
-            quotient,
-            remainder,
-            divisor,
-        }) => three(quotient, remainder, divisor),
+        Ok(
+            Mean {
+                quotient,
+                remainder,
+                divisor,
+            },
+        ) => three(quotient, remainder, divisor),
     }
 }
 
@@ -237,12 +241,19 @@ pub fn of_verdict(v: Result<Totals, TraceRefusal>) -> Numbers
     ensures { result ≡ numbers_of (verdict_reply v) }
 {
     match v {
-        Err(TraceRefusal { refusal, at: record }) => refused(refusal, record),
-        Ok(Totals {
-            events,
-            fences,
-            findings,
-        }) => three(events, fences, findings),
+        Err(
+            TraceRefusal {
+                refusal,
+                at: record,
+            },
+        ) => refused(refusal, record),
+        Ok(
+            Totals {
+                events,
+                fences,
+                findings,
+            },
+        ) => three(events, fences, findings),
     }
 }
 
@@ -251,12 +262,19 @@ pub fn of_trace_exposure(e: Result<Mean, TraceRefusal>) -> Numbers
     ensures { result ≡ numbers_of (trace_exposure_reply e) }
 {
     match e {
-        Err(TraceRefusal { refusal, at: record }) => refused(refusal, record),
-        Ok(Mean {
-            quotient,
-            remainder,
-            divisor,
-        }) => three(quotient, remainder, divisor),
+        Err(
+            TraceRefusal {
+                refusal,
+                at: record,
+            },
+        ) => refused(refusal, record),
+        Ok(
+            Mean {
+                quotient,
+                remainder,
+                divisor,
+            },
+        ) => three(quotient, remainder, divisor),
     }
 }
 
@@ -265,7 +283,12 @@ pub fn of_trace_interval(t: Result<SitedInterval, TraceRefusal>) -> Numbers
     ensures { result ≡ numbers_of (trace_interval_reply t) }
 {
     match t {
-        Err(TraceRefusal { refusal, at: record }) => refused(refusal, record),
+        Err(
+            TraceRefusal {
+                refusal,
+                at: record,
+            },
+        ) => refused(refusal, record),
         Ok(SitedInterval { interval, sites }) => with_sites(interval, sites),
     }
 }

@@ -1,13 +1,15 @@
 -- The findings or the refusal in the area.
 use Rattle.std.specs.Prelude.{Ok, Err}
-use mathlib.Core.Path.{◌≡◌, refl, ap, ◌∙◌}
+use mathlib.Core.Path.{◌≡◌, refl, sym, ap, ◌∙◌}
 use mathlib.Core.List.{List, [], ◌++◌}
 use Prim.Native.Nat.{ℕ, min, ◌*◌, ◌≤◌}
 use native.Mathlib.Omega.{arith}
 use lib.ListN.{length, drop, length-append, length-drop}
 use lib.Seq.{take_all}
 use Rattle.event.specs.declared.Refusal.{Refusal}
+use Rattle.event.specs.declared.Totals.{Totals}
 use Rattle.event.specs.Answers.{Parsed, refused_at, totals}
+use Rattle.event.proofs.Results.{same_value}
 use Rattle.event.specs.Numbers.{number_of}
 use Rattle.codec.specs.Codec.{finding_size}
 use Rattle.history.specs.History.{History}
@@ -50,9 +52,9 @@ module _ (trace area : List ℕ) where
     where
       go : (c : TraceCheck) → trace_check trace area ≡ c → verdict_for c (history_of trace) (answers_of trace) ≡ totals events fences findings → Taken events left
       go (Err r) p k = let z : ◌≡◌ {A = ℕ} 0 1 = cc in absurd (omega arith)
-      go (Ok tt) p k =
+      go (Ok _) p k =
           let check = unless_passed (first_broken (trace_limits trace area)) 0 (check_all (lines_in trace) (records_in trace)) p in
-          let same : events ≡ length (history_of trace) = cc in
+          let same : events ≡ length (history_of trace) = ap (λ (t : Totals). t.events) (sym (same_value k)) in
           record {
             bytes = l ∙ area_holds trace area p;
             size = omega (arith, findings_size (lines_in trace) 1 [] (records_in trace) check.1, all_counted trace);
@@ -65,7 +67,7 @@ module _ (trace area : List ℕ) where
   stays {x} {n} e = go (trace_check trace area) refl e
     where
       go : (c : TraceCheck) → trace_check trace area ≡ c → verdict_for c (history_of trace) (answers_of trace) ≡ refused_at x n → area_after trace area ≡ area
-      go (Ok tt) p k = let z : ◌≡◌ {A = ℕ} 0 1 = cc in absurd (omega arith)
+      go (Ok _) p k = let z : ◌≡◌ {A = ℕ} 0 1 = cc in absurd (omega arith)
       go (Err r) p k = area_stays trace area p
 
   -- the refusal is put

@@ -37,12 +37,12 @@ fn put_report(input: &[u8], text: &mut [u8]) -> usize
 {
     let byte = codec::u16_at(input, 0);
     match trace_interval::interval(trace_in(input), byte) {
-        Err(TraceRefusal { refusal, at: record }) => lines::refusal(
-            text,
-            0,
-            numbers::number(refusal),
-            record,
-        ),
+        Err(
+            TraceRefusal {
+                refusal,
+                at: record,
+            },
+        ) => lines::refusal(text, 0, numbers::number(refusal), record),
         Ok(SitedInterval { interval, sites }) => put_known(text, byte, interval, sites),
     }
 }

@@ -4,6 +4,7 @@ ghost use Rattle.text.specs.Text.{out, put};
 ghost use Rattle.reports.specs.Exposure.{exposure_line, report_of};
 
 use event::{TraceRefusal, numbers};
+use exposure::Mean;
 
 // No report is longer: the words of a mean and three numbers, were these of ten digits.
 pub const LONGEST: usize = 42;
@@ -30,17 +31,19 @@ fn put_report(trace: &[u8], text: &mut [u8]) -> usize
     ensures { out text.new result ≡ put (report_of trace.now) (out text.old 0) }
 {
     match trace_exposure::exposure(trace) {
-        Err(TraceRefusal { refusal, at: record }) => lines::refusal(
-            text,
-            0,
-            numbers::number(refusal),
-            record,
-        ),
-        Ok(Mean {
-            quotient,
-            remainder,
-            divisor,
-        }) => put_mean(text, quotient, remainder, divisor),
+        Err(
+            TraceRefusal {
+                refusal,
+                at: record,
+            },
+        ) => lines::refusal(text, 0, numbers::number(refusal), record),
+        Ok(
+            Mean {
+                quotient,
+                remainder,
+                divisor,
+            },
+        ) => put_mean(text, quotient, remainder, divisor),
     }
 }
 

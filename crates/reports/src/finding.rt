@@ -10,16 +10,18 @@ pub fn put_report(trace: &[u8], area: &mut [u8]) -> usize
     ensures { out area.new result ≡ put (report_of trace.now area.old) (out area.old 0) }
 {
     match judge::judge(trace, area) {
-        Err(TraceRefusal { refusal, at: record }) => lines::refusal(
-            area,
-            0,
-            numbers::number(refusal),
-            record,
-        ),
-        Ok(Totals {
-            events,
-            fences: _,
-            findings: _,
-        }) => 12 * (events as usize),
+        Err(
+            TraceRefusal {
+                refusal,
+                at: record,
+            },
+        ) => lines::refusal(area, 0, numbers::number(refusal), record),
+        Ok(
+            Totals {
+                events,
+                fences: _,
+                findings: _,
+            },
+        ) => 12 * (events as usize),
     }
 }

@@ -15,7 +15,7 @@ use Rattle.trace.specs.Checked.{read_limits}
 
 -- a record read by itself, by what the check of 6 and 7 says
 abbrev pub read_by : Check → Record → Parsed
-read_by (Ok tt) r = Ok r
+read_by (Ok _) r = Ok r
 read_by (Err x) r = Err x
 
 pub read_by_limits : (s : List ℕ) → parsed s ≡ read_by (first_broken (read_limits s)) (record_of s)
@@ -36,7 +36,7 @@ pub as_read : (s : List ℕ) {r : Record} → parsed s ≡ Ok r → AsRead s r
 as_read s {r} e = go (first_broken (read_limits s)) refl (sym (read_by_limits s) ∙ e)
   where
     go : (c : Check) → first_broken (read_limits s) ≡ c → read_by c (record_of s) ≡ Ok r → AsRead s r
-    go (Ok tt) p k = record { passed = p; same = cc }
+    go (Ok _) p k = record { passed = p; same = cc }
     go (Err x) p k = let z : ◌≡◌ {A = ℕ} 0 1 = cc in absurd (omega arith)
 
 -- and refuse by their number one that is not
@@ -44,5 +44,5 @@ pub as_unread : (s : List ℕ) {x : Refusal} → parsed s ≡ Err x → first_br
 as_unread s {x} e = go (first_broken (read_limits s)) (sym (read_by_limits s) ∙ e)
   where
     go : (c : Check) → read_by c (record_of s) ≡ Err x → c ≡ Err x
-    go (Ok tt) k = let z : ◌≡◌ {A = ℕ} 0 1 = cc in absurd (omega arith)
+    go (Ok _) k = let z : ◌≡◌ {A = ℕ} 0 1 = cc in absurd (omega arith)
     go (Err y) k = cc

@@ -18,7 +18,7 @@ read_limits s =
 
 -- where a check passes, the rest decides; where it does not, the trace is refused at number n
 abbrev pub unless_broken : Check → ℕ → TraceCheck → TraceCheck
-unless_broken (Ok tt) n rest = rest
+unless_broken (Ok _) n rest = rest
 unless_broken (Err x) n rest = refused_at x n
 
 -- the records from number n on, after the history: the first that is refused, by 6 or 7 from its bytes or by 9, 18, 10 to 12 from its

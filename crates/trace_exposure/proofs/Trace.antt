@@ -57,7 +57,7 @@ module _ (s : List ℕ) where
     decided : (c : TraceCheck) → check_all (lines_in s) (records_in s) ≡ c →
         unless_refused c (exposure_of in_trace.stage.run) ≡ unless_refused c (exposure_in (lines_in s) (interval_of (history_of s)))
     decided (Err r) k = refl
-    decided (Ok tt) k = ap (unless_refused (Ok tt)) (same_exposure k)
+    decided (Ok _) k = ap (unless_refused (Ok tt)) (same_exposure k)
 
     pub trace_exposure : exposure_by (all_judged t.count t.lines part []) ≡ trace_exposure_of s
     unfolding trace_exposure_of

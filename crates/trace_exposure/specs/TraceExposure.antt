@@ -20,7 +20,7 @@ without_record (Ok m) = Ok m
 -- after every other check, the answer of the run
 abbrev pub unless_refused : TraceCheck → Exposed → TraceExposure
 unless_refused (Err r) e = Err r
-unless_refused (Ok tt) e = without_record e
+unless_refused (Ok _) e = without_record e
 
 unfoldable pub trace_exposure_of : List ℕ → TraceExposure
 trace_exposure_of trace = unless_refused (file_check trace) (exposure_in (lines_in trace) (interval_of (history_of trace)))

@@ -69,7 +69,7 @@ module _ (s : List ℕ) (byte : ℕ) where
     decided : (c : TraceCheck) → check_all (lines_in s) (records_in s) ≡ c →
         unless_refused c (with_sites (records_in s) (ask_of in_trace.stage.run byte)) ≡ unless_refused c accepted
     decided (Err r) k = refl
-    decided (Ok tt) k = ap (with_sites (records_in s)) (same_asked k)
+    decided (Ok _) k = ap (with_sites (records_in s)) (same_asked k)
 
     pub trace_interval : interval_by (records_of t.count part) (all_judged t.count t.lines part []) byte ≡ trace_interval_of s byte
     unfolding trace_interval_of

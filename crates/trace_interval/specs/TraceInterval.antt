@@ -56,7 +56,7 @@ with_sites records (Ok i) = sited i (sites_in records i)
 -- after every other check, the answer to the byte asked
 abbrev pub unless_refused : TraceCheck → TraceInterval → TraceInterval
 unless_refused (Err r) answer = Err r
-unless_refused (Ok tt) answer = answer
+unless_refused (Ok _) answer = answer
 
 -- 9 where the byte is past a window of so many lines, else its interval by the accepted events
 abbrev pub asked_after : (lines : ℕ) → History → ℕ → Asked

@@ -59,7 +59,7 @@ unfolding opened_of
 opened s {t} e = go (first_broken (file_limits s)) refl e
   where
     go : (c : Check) → first_broken (file_limits s) ≡ c → opened_for c (trailer_of s) ≡ Ok t → WithinLimits s t
-    go (Ok tt) f k = record { limits = passed_unbroken (file_limits s) f; trailer = cc }
+    go (Ok _) f k = record { limits = passed_unbroken (file_limits s) f; trailer = cc }
     go (Err x) f k = let z : ◌≡◌ {A = ℕ} 0 1 = cc in absurd (omega arith)
 
 module _ (s : List ℕ) (small : (i : ℕ) → get_or s i 0 < 256) where

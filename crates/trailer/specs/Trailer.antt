@@ -64,7 +64,7 @@ file_limits s =
 
 -- the trailer, or the first of them that is broken
 abbrev pub opened_for : Check → Trailer → Opened
-opened_for (Ok tt) t = Ok t
+opened_for (Ok _) t = Ok t
 opened_for (Err x) t = Err x
 
 unfoldable pub opened_of : List ℕ → Opened

@@ -27,7 +27,7 @@ use Rattle.codec.specs.Codec.{finding_size}
 
 -- where a check and the rest after it pass, both do
 pub unless_passed : (c : Check) (n : ℕ) (rest : TraceCheck) → unless_broken c n rest ≡ (Ok tt) → (c ≡ (Ok tt)) × (rest ≡ (Ok tt))
-unless_passed (Ok tt) n rest e = (refl, e)
+unless_passed (Ok _) n rest e = (refl, e)
 unless_passed (Err x) n rest e = let z : ◌≡◌ {A = ℕ} 0 1 = cc in absurd (omega arith)
 
 -- the first of more limits that is broken is the first of the first ones, if one of those is broken
@@ -57,7 +57,7 @@ module _ (s area : List ℕ) where
   not_opened {x} e = go (first_broken (file_limits s)) e
     where
       go : (c : Check) → opened_for c (trailer_of s) ≡ Err x → c ≡ Err x
-      go (Ok tt) k = let z : ◌≡◌ {A = ℕ} 0 1 = cc in absurd (omega arith)
+      go (Ok _) k = let z : ◌≡◌ {A = ℕ} 0 1 = cc in absurd (omega arith)
       go (Err y) k = cc
 
   -- the trailer is refused
@@ -111,5 +111,5 @@ area_aside s area = go (first_broken (file_limits s)) refl (ltb (length area) (a
     go : (c : Check) → first_broken (file_limits s) ≡ c → (short : Bool) → ltb (length area) (area_size s) ≡ short →
         (trace_check s area ≡ unless_broken c 0 rest) ⊎ (trace_check s area ≡ refused_at AreaTooShort 0)
     go (Err x) e short a = inl (decides (Err x) (broken_first (file_limits s) (area_limits s area) e))
-    go (Ok tt) e true a = inr (decides (Err AreaTooShort) (broken_later (file_limits s) (area_limits s area) e ∙ (rw a)))
-    go (Ok tt) e false a = inl (decides (Ok tt) (broken_later (file_limits s) (area_limits s area) e ∙ (rw a)))
+    go (Ok _) e true a = inr (decides (Err AreaTooShort) (broken_later (file_limits s) (area_limits s area) e ∙ (rw a)))
+    go (Ok _) e false a = inl (decides (Ok tt) (broken_later (file_limits s) (area_limits s area) e ∙ (rw a)))

@@ -47,7 +47,7 @@ answers_of trace = answers (lines_in trace) [] (events_in trace)
 -- a refusal with its record's number, or events, fences and the count of findings other than none
 abbrev pub verdict_for : TraceCheck → (h : History) → List Answer → Verdict
 verdict_for (Err r) h found = Err r
-verdict_for (Ok tt) h found = totals (length h) (epoch_at h (length h)) (reported found)
+verdict_for (Ok _) h found = totals (length h) (epoch_at h (length h)) (reported found)
 
 unfoldable pub verdict_of : (trace area : List ℕ) → Verdict
 verdict_of trace area = verdict_for (trace_check trace area) (history_of trace) (answers_of trace)
@@ -71,7 +71,7 @@ findings_bytes (r ∷ rest) (a ∷ found) = bytes_for r a ++ findings_bytes rest
 -- a refused trace leaves the area as it was; an accepted one fills 12 × count bytes, and the bytes beyond do not change
 abbrev pub area_for : TraceCheck → (trace area : List ℕ) → List ℕ
 area_for (Err r) trace area = area
-area_for (Ok tt) trace area = findings_bytes (events_in trace) (answers_of trace) ++ drop (area_size trace) area
+area_for (Ok _) trace area = findings_bytes (events_in trace) (answers_of trace) ++ drop (area_size trace) area
 
 unfoldable pub area_after : (trace area : List ℕ) → List ℕ
 area_after trace area = area_for (trace_check trace area) trace area

@@ -38,7 +38,7 @@ accepted_taken lines h (r ∷ given) t = go (first_broken (limits_by (of_history
   where
     go : (c : Check) → Checked (limits_by (of_history lines h) r.event) c → Taken lines (accepted lines h given) →
         (Taken lines (r ∷ h) → Taken lines (accepted lines (r ∷ h) given)) → Taken lines (accepted lines h (r ∷ given))
-    go (Ok tt) (Checked.none k) refused added = rw (takes_in lines h r given k) (added (Taken.taken t k))
+    go (Ok _) (Checked.none k) refused added = rw (takes_in lines h r given k) (added (Taken.taken t k))
     go (Err x) (Checked.first k) refused added = rw (leaves_out lines h r given k) refused
 
 -- such a list has at most 65,535 events
