@@ -19,7 +19,7 @@ fn lay_out(findings: &[u8], area: &mut [u8]) -> Result<u32, PageRefusal>
 fn print_line<W: Write>(out: &mut W, findings: &[u8], area: &[u8], p: Result<u32, PageRefusal>) {
     call_lines::place(out, b"pages of ", findings.len());
     call_lines::place(out, b" bytes in ", area.len());
-    call_lines::reply(out, replies::of_paged(p));
+    call_lines::reply(out, replies::of(p));
     call_lines::field(out, b" sum ", writer_calls::changes::sum(area));
     call_lines::words(out, b"\n");
 }
