@@ -22,9 +22,10 @@ fn first_values<const N: usize>(n: Numbers) -> [u32; N]
     ensures { result ≡ with_values (N - 2) n }
 {
     let mut all = [0; N];
-    all[0] = u32::from(n.number);
-    all[1] = n.at;
-    all[2..].copy_from_slice(&n.values[..N - 2]);
+    let places = &mut all[..];
+    places[0] = u32::from(n.number);
+    places[1] = n.at;
+    places[2..].copy_from_slice(&n.values[..N - 2]);
     all
 }
 
