@@ -1,7 +1,5 @@
 -- What a call on a run answers, in the paper's numbers.
-use Rattle.std.specs.Prelude.{[], ◌∷◌, Ok, Err}
-use Rattle.event.specs.Numbers.{number_of}
-use Rattle.event.specs.Reply.{Reply, check_reply, answer_reply, named_values}
+use Rattle.event.specs.Reply.{Reply, reply_by, refusal_reply, check_reply, answer_reply, named_values, totals_values}
 use Rattle.events.specs.Give.{Given}
 use Rattle.engine.specs.declared.Window.{Window}
 use Rattle.engine.specs.Answers.{Asked, Closing}
@@ -16,10 +14,8 @@ given_reply g = answer_reply g.answer
 
 -- a byte asked: the epochs of its interval, and then its events
 abbrev pub asked_reply : Asked → Reply
-asked_reply (Err x) = Reply.refused (number_of x) 0
-asked_reply (Ok i) = Reply.values (named_values i)
+asked_reply a = reply_by named_values refusal_reply a
 
 -- a closing: events, fences and the count of findings other than none
 abbrev pub closing_reply : Closing → Reply
-closing_reply (Err x) = Reply.refused (number_of x) 0
-closing_reply (Ok t) = Reply.values (t.events ∷ t.fences ∷ t.findings ∷ [])
+closing_reply c = reply_by totals_values refusal_reply c

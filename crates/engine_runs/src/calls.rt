@@ -11,7 +11,7 @@ use tables::Run;
 // A fresh window of so many lines, and what the check says.
 fn print_fresh<W: Write>(out: &mut W, lines: u16, c: Result<(), Refusal>) {
     let _ = write!(out, "fresh {lines}");
-    call_lines::answered(out, replies::of_check(c));
+    call_lines::answered(out, replies::of(c));
 }
 
 // A fresh window, and the run that it hands over.
@@ -27,7 +27,7 @@ fn fresh<W: Write>(out: &mut W, lines: u16) -> Run
 // An event given in the bytes of a record, and its answer.
 fn print_given<W: Write>(out: &mut W, bytes: &[u8], a: Result<Finding, Refusal>) {
     call_lines::record(out, b"give ", bytes);
-    call_lines::answered(out, replies::of_answer(a));
+    call_lines::answered(out, replies::of(a));
 }
 
 // An event given, and the run after it. A record that cannot be read changes nothing.
@@ -52,21 +52,21 @@ fn give<W: Write>(out: &mut W, run: Run, bytes: &[u8]) -> Run
 fn ask<W: Write>(out: &mut W, run: Run, byte: u16) {
     let a = engine::ask(run, byte);
     let _ = write!(out, "ask {byte}");
-    call_lines::answered(out, replies::of_asked(a));
+    call_lines::answered(out, replies::of(a));
 }
 
 // The run closed.
 fn close<W: Write>(out: &mut W, run: Run) {
     let c = engine::close(run);
     let _ = write!(out, "close");
-    call_lines::answered(out, replies::of_closing(c));
+    call_lines::answered(out, replies::of(c));
 }
 
 // The run asked for its mean exposure.
 fn expose<W: Write>(out: &mut W, run: Run) {
     let e = exposure::exposure(run);
     let _ = write!(out, "exposure");
-    call_lines::answered(out, replies::of_exposed(e));
+    call_lines::answered(out, replies::of(e));
 }
 
 // So many fences given, with no line printed, and the run after them.

@@ -1,14 +1,14 @@
 -- Mean exposure: "sum closing epoch less opening epoch over all bytes whose interval is closed, and divide by the number of such bytes."
-use Rattle.std.specs.Prelude.{◌≡◌, Bool, true, false, cond, [], ◌∷◌, ℕ, zero, suc, ◌+◌, ◌-◌, ◌*◌, ◌/◌, ◌%◌, ◌<◌, Err, Ok}
+use Rattle.std.specs.Prelude.{◌≡◌, Bool, true, false, cond, List, [], ◌∷◌, ℕ, zero, suc, ◌+◌, ◌-◌, ◌*◌, ◌/◌, ◌%◌, ◌<◌, Err}
 use Rattle.event.specs.declared.Interval.{Interval}
 use Rattle.event.specs.declared.Interval.TheVariants.{None, Open, Closed}
 use Rattle.event.specs.declared.Refusal.TheVariants.{NoByteClosed}
-use Rattle.event.specs.Numbers.{number_of}
-use Rattle.event.specs.Reply.{Reply}
+use Rattle.event.specs.Reply.{Reply, reply_by, refusal_reply}
 use Rattle.window.specs.Window.{window_bytes}
 use Rattle.tables.specs.Run.{Run}
 use Rattle.tables.specs.View.{interval_in, of_run}
 use Rattle.exposure.specs.Answers.{Exposed, mean}
+use Rattle.exposure.specs.declared.Mean.{Mean}
 use Rattle.exposure.specs.declared.Sums.{Sums}
 
 -- no epoch is later
@@ -59,10 +59,12 @@ exposure_in lines interval = mean_of (sum_of interval (window_bytes lines)) (clo
 abbrev pub exposure_of : Run → Exposed
 exposure_of run = exposure_in (of_run run).lines (interval_in run.stored run.fenced run.opened run.closed)
 
--- the answer in the paper's numbers
+-- the answer in the paper's numbers: quotient, remainder, divisor
+abbrev pub mean_values : Mean → List ℕ
+mean_values m = m.quotient ∷ m.remainder ∷ m.divisor ∷ []
+
 abbrev pub exposure_reply : Exposed → Reply
-exposure_reply (Err x) = Reply.refused (number_of x) 0
-exposure_reply (Ok m) = Reply.values (m.quotient ∷ m.remainder ∷ m.divisor ∷ [])
+exposure_reply e = reply_by mean_values refusal_reply e
 
 -- quotient, remainder and divisor are the mean of a sum over so many bytes: "quotient × divisor + remainder is the sum, the remainder below
 -- the divisor"

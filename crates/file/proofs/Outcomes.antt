@@ -24,7 +24,7 @@ use Rattle.trailer.specs.Trailer.{trailer_size, most_bytes}
 use Rattle.trace.specs.Checked.{read_limits}
 use Rattle.trace.proofs.ReadLimits.{as_read, as_unread}
 use Rattle.file.specs.declared.Writer.{Writer}
-use Rattle.file.specs.declared.Written.{Written}
+use Rattle.file.specs.Answers.{Written}
 use Rattle.file.specs.Limits.{room_limit}
 use Rattle.file.specs.Write.{records_end, view_of, area_for, record_laid, written_for, write_check, written_of, area_written, unread_check, parsed_written_of, area_parsed_written, bytes_check, bytes_written_of, area_bytes_written, close_check}
 

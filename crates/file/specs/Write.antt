@@ -14,8 +14,7 @@ use Rattle.history.specs.Refused.{limit, first_broken}
 use Rattle.limits.specs.Limits.{numbers_of}
 use Rattle.trailer.specs.Trailer.{trailer_size, trailer_with}
 use Rattle.file.specs.declared.Writer.{Writer}
-use Rattle.file.specs.Answers.{Started, Closed}
-use Rattle.file.specs.declared.Written.{Written}
+use Rattle.file.specs.Answers.{Started, Written, Closed}
 use Rattle.file.specs.Limits.{length_limit, start_limits, write_limits, bytes_limits, close_limits}
 
 abbrev pub writer_with : (lines offset count depth : ℕ) → Writer

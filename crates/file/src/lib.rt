@@ -2,8 +2,6 @@
 // calls are in `writer`.
 #![tactic(auto)]
 
-use event::Refusal;
-
 // What a writer knows of its file: the window's lines, where the first record stands, how many records there are, and how many
 // transactions are open.
 #[derive(Clone, Copy)]
@@ -12,11 +10,4 @@ pub struct Writer {
     pub offset: u32,
     pub count: u32,
     pub depth: u16,
-}
-
-// An event given: what the limits say, and the writer to go on with.
-#[derive(Clone, Copy)]
-pub struct Written {
-    pub check: Result<(), Refusal>,
-    pub writer: Writer,
 }

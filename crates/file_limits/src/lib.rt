@@ -40,15 +40,11 @@ pub fn check_room(room: usize, end: usize) -> Result<(), Refusal>
 pub fn check_start(room: usize, preamble: usize, lines: u16) -> Result<(), Refusal>
     ensures { result ≡ first_broken (start_limits room preamble lines) }
 {
-    match window::check_lines(lines) {
-        Err(x) => Err(x),
-        Ok(()) => {
-            if is_too_long(preamble) {
-                return Err(Refusal::TraceTooLong);
-            }
-            check_room(room, preamble)
-        }
+    window::check_lines(lines)?;
+    if is_too_long(preamble) {
+        return Err(Refusal::TraceTooLong);
     }
+    check_room(room, preamble)
 }
 
 // The limit 2 on an event: whether the file with one record more is too long.
@@ -65,8 +61,6 @@ pub fn check_write(room: usize, w: Writer, e: Event) -> Result<(), Refusal>
     if is_full(w) {
         return Err(Refusal::TraceTooLong);
     }
-    match limits::check_event(w.lines, w.count as u16, w.depth, e) {
-        Err(x) => Err(x),
-        Ok(()) => check_room(room, records_end(w) + 12),
-    }
+    limits::check_event(w.lines, w.count as u16, w.depth, e)?;
+    check_room(room, records_end(w) + 12)
 }

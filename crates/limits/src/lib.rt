@@ -39,8 +39,7 @@ fn check_state(events: u16, depth: u16, e: Event) -> Result<(), Refusal>
     match e {
         Event::Begin => check_depth(depth),
         Event::Log(_) | Event::End => check_open(depth),
-        Event::Store(_) | Event::WriteBack(_) | Event::Fence => Ok(()),
-        Event::Persisted(_) | Event::Ordered(_, _) => Ok(()),
+        _ => Ok(()),
     }
 }
 

@@ -18,7 +18,7 @@ fn lay_out(findings: &[u8], area: &mut [u8]) -> Result<u32, PageRefusal>
 // The line: the lengths of both areas, the answer, and the sum of the page area's bytes.
 fn print_line<W: Write>(out: &mut W, findings: &[u8], area: &[u8], p: Result<u32, PageRefusal>) {
     let _ = write!(out, "pages of {} bytes in {}", findings.len(), area.len());
-    call_lines::reply(out, replies::of_paged(p));
+    call_lines::reply(out, replies::of(p));
     let _ = writeln!(out, " sum {}", writer_calls::changes::sum(area));
 }
 

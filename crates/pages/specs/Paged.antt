@@ -2,9 +2,10 @@
 use Rattle.std.specs.Prelude.{List, [], ◌∷◌, ◌++◌, ℕ, zero, suc, length, drop, Ok, Err}
 use Rattle.event.specs.Answers.{Check}
 use Rattle.event.specs.Numbers.{number_of}
-use Rattle.event.specs.Reply.{Reply}
+use Rattle.event.specs.Reply.{Reply, reply_by}
 use Rattle.history.specs.Refused.{first_broken}
 use Rattle.page_layout.specs.Pages.{findings_in, pages_of}
+use Rattle.pages.specs.declared.PageRefusal.{PageRefusal}
 use Rattle.pages.specs.Answers.{Paged, refused_finding}
 use Rattle.pages.specs.Limits.{whole_limits, damage_limits, room_limits}
 
@@ -31,9 +32,11 @@ paged_of findings room =
     (in_room room (length (pages_of findings))))
 
 -- a refusal's number and its position, or the length written
+abbrev pub page_refusal_reply : PageRefusal → Reply
+page_refusal_reply r = Reply.refused (number_of r.refusal) r.position
+
 abbrev pub paged_reply : Paged → Reply
-paged_reply (Err r) = Reply.refused (number_of r.refusal) r.position
-paged_reply (Ok length) = Reply.values (length ∷ [])
+paged_reply p = reply_by (λ length. length ∷ []) page_refusal_reply p
 
 -- a refusal leaves the page area as it was; else it starts with the pages, and the bytes beyond do not change
 abbrev pub page_area_for : Paged → (findings area : List ℕ) → List ℕ

@@ -9,7 +9,6 @@ use Rattle.event.specs.Reply.{Reply}
 use Rattle.records.specs.Record.{parsed, parsed_fields, fields_bytes}
 use Rattle.records.proofs.RoundTrip.{fields_read}
 use Rattle.file.specs.declared.Writer.{Writer}
-use Rattle.file.specs.declared.Written.{Written}
 use Rattle.file.specs.Write.{writer_with, parsed_written_of, area_parsed_written, bytes_written_of, area_bytes_written}
 use Rattle.file.proofs.Outcomes.{bytes_parsed}
 use Rattle.replies.specs.declared.Numbers.{Numbers}
@@ -29,8 +28,8 @@ module _ (area : List ℕ) {w v : Writer} (same : w ≡ v) (kind : ℕ) (a b : R
   from_bytes_lem : p ≡ parsed bytes
   from_bytes_lem = rw (fields_read kind a b site) read
 
-  pub event_written : {x : Written} → x ≡ parsed_written_of area w p → x ≡ bytes_written_of area v bytes
-  event_written e = e ∙ ap₂ (parsed_written_of area) same from_bytes_lem ∙ (bytes_parsed area v bytes).0
+  pub event_written : parsed_written_of area w p ≡ bytes_written_of area v bytes
+  event_written = ap₂ (parsed_written_of area) same from_bytes_lem ∙ (bytes_parsed area v bytes).0
 
   pub event_area : {next : List ℕ} → next ≡ area_parsed_written area w p → next ≡ area_bytes_written area v bytes
   event_area e = e ∙ ap₂ (area_parsed_written area) same from_bytes_lem ∙ (bytes_parsed area v bytes).1

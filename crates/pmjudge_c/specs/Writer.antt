@@ -4,8 +4,7 @@ use Rattle.event.specs.Answers.{Check}
 use Rattle.event.specs.Reply.{Reply}
 use Rattle.records.specs.Record.{fields_bytes}
 use Rattle.file.specs.declared.Writer.{Writer}
-use Rattle.file.specs.Answers.{Started}
-use Rattle.file.specs.declared.Written.{Written}
+use Rattle.file.specs.Answers.{Started, Written}
 use Rattle.file.specs.Write.{writer_with}
 use Rattle.replies.specs.declared.Numbers.{Numbers}
 use Rattle.replies.specs.Numbers.{numbers_of}

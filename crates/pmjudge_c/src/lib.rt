@@ -5,83 +5,41 @@
 
 pub mod writing; // the writer of traces
 
-ghost use Rattle.std.specs.Prelude.{◌≡◌, length};
+ghost use Rattle.std.specs.Prelude.{◌≡◌, ◌≤◌, ◌-◌, length};
 ghost use Rattle.verdict.specs.Verdict.{verdict_of, verdict_reply, area_after};
 ghost use Rattle.trace_exposure.specs.TraceExposure.{trace_exposure_of, trace_exposure_reply};
 ghost use Rattle.trace_interval.specs.TraceInterval.{trace_interval_of, trace_interval_reply};
 ghost use Rattle.pages.specs.Paged.{paged_of, paged_reply, page_area_after};
 ghost use Rattle.pmjudge_c.specs.Answer.{with_values, five_numbers, three_numbers};
-ghost use Rattle.pmjudge_c.specs.Interval.{open_places, closed_places, places_of, eleven_numbers};
+ghost use Rattle.pmjudge_c.specs.Interval.{places_of, eleven_numbers};
 
 use replies::Numbers;
 
-// The numbers of an answer that has three values.
-fn three_values(n: Numbers) -> [u32; 5]
-    ensures { result ≡ with_values 3 n }
+// The numbers of an answer with so many places: the refusal's two, and the first values.
+fn first_values<const N: usize>(n: Numbers) -> [u32; N]
+    requires small { 2 ≤ N }
+    requires enough { N ≤ 10 }
+    ensures { result ≡ with_values (N - 2) n }
 {
-    let v = n.values;
-    [n.number as u32, n.at, v[0], v[1], v[2]]
+    let mut all = [0; N];
+    let places = &mut all[..];
+    places[0] = u32::from(n.number);
+    places[1] = n.at;
+    places[2..].copy_from_slice(&n.values[..N - 2]);
+    all
 }
 
-// The numbers of an answer that has one value.
-fn one_value(n: Numbers) -> [u32; 3]
-    ensures { result ≡ with_values 1 n }
-{
-    let v = n.values;
-    [n.number as u32, n.at, v[0]]
-}
-
-// The numbers of an open interval, each at its place.
-fn open_places(n: Numbers) -> [u32; 11]
-    ensures { result ≡ open_places n }
-{
-    let v = n.values;
-    [
-        n.number as u32,
-        n.at,
-        1,
-        v[0],
-        0,
-        v[1],
-        v[2],
-        0,
-        v[3],
-        v[4],
-        0,
-    ]
-}
-
-// The numbers of a closed interval.
-fn closed_places(n: Numbers) -> [u32; 11]
-    ensures { result ≡ closed_places n }
-{
-    let v = n.values;
-    [
-        n.number as u32,
-        n.at,
-        2,
-        v[0],
-        v[1],
-        v[2],
-        v[3],
-        v[4],
-        v[5],
-        v[6],
-        v[7],
-    ]
-}
-
-// The numbers of any answer to a byte asked after a trace.
+// The numbers of an answer to a byte asked after a trace, each at its place.
 fn places(n: Numbers) -> [u32; 11]
     ensures { result ≡ places_of n }
 {
-    if n.count == 5 {
-        return open_places(n);
+    let number = u32::from(n.number);
+    let [a, b, c, d, e, f, g, h] = n.values;
+    match n.count {
+        5 => [number, n.at, 1, a, 0, b, c, 0, d, e, 0],
+        8 => [number, n.at, 2, a, b, c, d, e, f, g, h],
+        _ => [number, n.at, 0, 0, 0, 0, 0, 0, 0, 0, 0],
     }
-    if n.count == 8 {
-        return closed_places(n);
-    }
-    [n.number as u32, n.at, 0, 0, 0, 0, 0, 0, 0, 0, 0]
 }
 
 // Judges a trace into a findings area. A call takes about 95 KB of the caller's stack: 65,520 bytes for findings and 24,832 for tables, and
@@ -92,7 +50,7 @@ pub extern "C" fn pmjudge_judge(trace: &[u8], area: &mut [u8], answer: &mut [u32
     ensures area_after { area.new ≡ area_after trace.now area.old }
 {
     let v = judge::judge(trace, area);
-    *answer = three_values(replies::of_verdict(v));
+    *answer = first_values(replies::of(v));
 }
 
 // Works out the mean exposure of a trace.
@@ -101,7 +59,7 @@ pub extern "C" fn pmjudge_exposure(trace: &[u8], answer: &mut [u32; 5])
     ensures { answer.new ≡ five_numbers (trace_exposure_reply (trace_exposure_of trace.now)) }
 {
     let e = trace_exposure::exposure(trace);
-    *answer = three_values(replies::of_trace_exposure(e));
+    *answer = first_values(replies::of(e));
 }
 
 // Works out the persist interval of a byte after a trace.
@@ -110,7 +68,7 @@ pub extern "C" fn pmjudge_interval(trace: &[u8], byte: u16, answer: &mut [u32; 1
     ensures { answer.new ≡ eleven_numbers (trace_interval_reply (trace_interval_of trace.now byte)) }
 {
     let t = trace_interval::interval(trace, byte);
-    *answer = places(replies::of_trace_interval(t));
+    *answer = places(replies::of(t));
 }
 
 // Lays out the findings of an area on pages, in a page area.
@@ -120,5 +78,5 @@ pub extern "C" fn pmjudge_pages(findings: &[u8], area: &mut [u8], answer: &mut [
     ensures area_after { area.new ≡ page_area_after findings.now area.old }
 {
     let p = pages::pages(findings, area);
-    *answer = one_value(replies::of_paged(p));
+    *answer = first_values(replies::of(p));
 }

@@ -14,15 +14,14 @@ use replies::Numbers;
 fn length_only(n: Numbers) -> [u32; 2]
     ensures { result ≡ with_length n }
 {
-    let v = n.values;
-    [n.number as u32, v[0]]
+    [u32::from(n.number), n.values[0]]
 }
 
 // A writer as four numbers.
 fn numbers_of(w: Writer) -> [u32; 4]
     ensures { result ≡ writer_numbers w }
 {
-    [w.lines as u32, w.offset, w.count, w.depth as u32]
+    [u32::from(w.lines), w.offset, w.count, u32::from(w.depth)]
 }
 
 // Four numbers as a writer.
@@ -41,9 +40,8 @@ fn writer_of(n: &[u32; 4]) -> Writer
 fn put_numbers(n: &mut [u32; 4], c: Result<(), Refusal>, w: Writer)
     ensures { n.new ≡ after_check c w n.old }
 {
-    match c {
-        Err(_) => {}
-        Ok(()) => *n = numbers_of(w),
+    if c.is_ok() {
+        *n = numbers_of(w);
     }
 }
 
@@ -51,9 +49,8 @@ fn put_numbers(n: &mut [u32; 4], c: Result<(), Refusal>, w: Writer)
 fn put_started(n: &mut [u32; 4], s: Result<Writer, Refusal>)
     ensures { n.new ≡ after_start s n.old }
 {
-    match s {
-        Err(_) => {}
-        Ok(w) => *n = numbers_of(w),
+    if let Ok(w) = s {
+        *n = numbers_of(w);
     }
 }
 
@@ -72,7 +69,7 @@ pub extern "C" fn pmjudge_writer_start(
 {
     let s = writer::start(area, preamble, lines);
     put_started(writer, s);
-    *answer = length_only(replies::of_started(s));
+    *answer = length_only(replies::of(s));
 }
 
 // Writes an event, which comes as numbers.
@@ -105,10 +102,10 @@ pub extern "C" fn pmjudge_writer_event(
         length: b_length,
     };
     let p = records::read_fields(kind, 0, first, second, site);
-    let x = writer::write_parsed(area, writer_of(writer), p);
-    let check = x.check;
-    put_numbers(writer, check, x.writer);
-    *answer = length_only(replies::of_check(check));
+    let mut w = writer_of(writer);
+    let c = writer::write_parsed(area, &mut w, p);
+    put_numbers(writer, c, w);
+    *answer = length_only(replies::of(c));
 }
 
 // Closes the file.

@@ -6,8 +6,8 @@ use Rattle.event.specs.declared.Event.TheVariants.{Store, WriteBack, Fence, Begi
 use Rattle.event.specs.declared.Record.{Record}
 use Rattle.event.specs.declared.Refusal.TheVariants.{UnknownKind, FieldSet}
 use Rattle.event.specs.Answers.{Parsed}
-use Rattle.event.specs.Numbers.{kind_of, number_of}
-use Rattle.event.specs.Reply.{Reply}
+use Rattle.event.specs.Numbers.{kind_of}
+use Rattle.event.specs.Reply.{Reply, reply_by, refusal_reply}
 use Rattle.ranges.specs.Ranges.{ranges_of}
 use Rattle.codec.specs.Codec.{u16_at, u16_bytes}
 
@@ -108,5 +108,4 @@ abbrev pub record_values : Record → List ℕ
 record_values r = kind_of r.event ∷ range_values (range_a r.event) ++ range_values (range_b r.event) ++ r.site ∷ []
 
 abbrev pub read_reply : Parsed → Reply
-read_reply (Ok r) = Reply.values (record_values r)
-read_reply (Err x) = Reply.refused (number_of x) 0
+read_reply p = reply_by record_values refusal_reply p

@@ -1,10 +1,9 @@
 -- The mean exposure of a whole trace, read off its bytes, by what its accepted events say.
 use Rattle.std.specs.Prelude.{List, [], ◌∷◌, ℕ, Ok, Err}
-use Rattle.event.specs.Numbers.{number_of}
-use Rattle.event.specs.Reply.{Reply}
+use Rattle.event.specs.Reply.{Reply, reply_by, trace_refusal_reply}
 use Rattle.history.specs.Interval.{interval_of}
 use Rattle.exposure.specs.Answers.{Exposed}
-use Rattle.exposure.specs.Exposure.{exposure_in, exposure_of}
+use Rattle.exposure.specs.Exposure.{exposure_in, exposure_of, mean_values}
 use Rattle.trace.specs.Answers.{TraceCheck}
 use Rattle.trace.specs.Records.{lines_in}
 use Rattle.verdict.specs.Verdict.{file_check, history_of}
@@ -31,5 +30,4 @@ exposure_by e = unless_refused e.check (exposure_of e.stage.run)
 
 -- the answer in the paper's numbers
 abbrev pub trace_exposure_reply : TraceExposure → Reply
-trace_exposure_reply (Err r) = Reply.refused (number_of r.refusal) r.at
-trace_exposure_reply (Ok m) = Reply.values (m.quotient ∷ m.remainder ∷ m.divisor ∷ [])
+trace_exposure_reply e = reply_by mean_values trace_refusal_reply e

@@ -4,8 +4,7 @@ use Rattle.event.specs.declared.NamedInterval.{NamedInterval}
 use Rattle.event.specs.declared.NamedInterval.TheVariants.{None, Open, Closed}
 use Rattle.event.specs.Answers.{Parsed, refused_at}
 use Rattle.event.specs.declared.Refusal.TheVariants.{PastWindow}
-use Rattle.event.specs.Numbers.{number_of}
-use Rattle.event.specs.Reply.{Reply, named_values}
+use Rattle.event.specs.Reply.{Reply, reply_by, trace_refusal_reply, named_values}
 use Rattle.ranges.specs.Ranges.{is_past}
 use Rattle.history.specs.Count.{if_some}
 use Rattle.history.specs.History.{History}
@@ -16,6 +15,7 @@ use Rattle.trace.specs.Answers.{TraceCheck}
 use Rattle.trace.specs.Records.{lines_in, records_in}
 use Rattle.verdict.specs.Verdict.{file_check, history_of}
 use Rattle.pass.specs.Pass.{Passed}
+use Rattle.trace_interval.specs.declared.SitedInterval.{SitedInterval}
 use Rattle.trace_interval.specs.declared.Sites.{Sites}
 use Rattle.trace_interval.specs.Answers.{TraceInterval, sited}
 
@@ -76,6 +76,8 @@ site_values (Open opened store back) s = s.store ∷ s.back ∷ []
 site_values (Closed opened closed store back fence) s = s.store ∷ s.back ∷ s.fence ∷ []
 
 -- the answer in the paper's numbers: the epochs, the events, and the sites of the events
+abbrev pub sited_values : SitedInterval → List ℕ
+sited_values k = named_values k.interval ++ site_values k.interval k.sites
+
 abbrev pub trace_interval_reply : TraceInterval → Reply
-trace_interval_reply (Err r) = Reply.refused (number_of r.refusal) r.at
-trace_interval_reply (Ok k) = Reply.values (named_values k.interval ++ site_values k.interval k.sites)
+trace_interval_reply t = reply_by sited_values trace_refusal_reply t

@@ -4,7 +4,6 @@ use mathlib.Core.Path.{◌≡◌, ap, ◌∙◌}
 use mathlib.Core.Bool.{Bool, true, false}
 use mathlib.Core.List.{List}
 use Prim.Native.Nat.{ℕ, ◌-◌, ◌≤◌, ◌<◌}
-use native.Mathlib.Omega.{arith}
 use lib.Dec.{eqb}
 use lib.ListN.{length, take, drop}
 use borrow.Author.Tests.{lt-ltb, le-ltb}
@@ -14,21 +13,17 @@ use Rattle.trailer.specs.Trailer.{trailer_bytes, has_mark, trailer_from, trailer
 use Rattle.trailer.proofs.Parts.{rest_taken}
 
 module _ (s : List ℕ) where
-  -- the last 16 bytes, as the code takes them
-  abbrev last16 : List ℕ
-  last16 = take (length s - (length s - 16)) (drop (length s - 16) s)
+  -- the bytes from a place on, as the code takes them
+  abbrev from : ℕ → List ℕ
+  from at = take (length s - at) (drop at s)
 
-  last16_is : last16 ≡ trailer_bytes s
-  last16_is = rest_taken (length s - 16) s
+  last16 : {at : ℕ} → at ≡ length s - 16 → from at ≡ trailer_bytes s
+  last16 place = ap from place ∙ rest_taken (length s - 16) s
 
-  -- the trailer is read from them, or from all bytes where there are fewer
-  pub last_trailer : {t : Trailer} → t ≡ trailer_from last16 → t ≡ trailer_of s
+  -- the trailer is read from the last 16 bytes, which are all where there are fewer
+  pub last_trailer : {at : ℕ} → at ≡ length s - 16 → {t : Trailer} → t ≡ trailer_from (from at) → t ≡ trailer_of s
   unfolding trailer_of
-  last_trailer read = read ∙ ap trailer_from last16_is
-
-  pub short_trailer : length s < 16 → {t : Trailer} → t ≡ trailer_from s → t ≡ trailer_of s
-  unfolding trailer_of
-  short_trailer k read = let z : length s - 16 ≡ 0 = omega arith in rw z read
+  last_trailer place read = read ∙ ap trailer_from (last16 place)
 
   pub too_short : length s < 16 → Err TraceTooShort ≡ opened_of s
   unfolding opened_of
@@ -39,18 +34,18 @@ module _ (s : List ℕ) where
     unfolding opened_of
     too_long k = rw (le-ltb (length s) 16 enough, lt-ltb 65536 (length s) k)
 
-    module _ (few : length s ≤ 65536) where
-      module _ {m : Bool} (marked : m ≡ has_mark last16) where
+    module _ (few : length s ≤ 65536) {at : ℕ} (place : at ≡ length s - 16) where
+      module _ {m : Bool} (marked : m ≡ has_mark (from at)) where
         is_mark : m ≡ has_mark (trailer_bytes s)
-        is_mark = marked ∙ ap has_mark last16_is
+        is_mark = marked ∙ ap has_mark (last16 place)
 
         pub mark_differs : m ≡ false → Err MarkDiffers ≡ opened_of s
         unfolding opened_of
         mark_differs k = rw (le-ltb (length s) 16 enough, le-ltb 65536 (length s) few, ← is_mark, k)
 
-        module _ (same : m ≡ true) {t : Trailer} (read : t ≡ trailer_from last16) where
+        module _ (same : m ≡ true) {t : Trailer} (read : t ≡ trailer_from (from at)) where
           is_trailer : t ≡ trailer_of s
-          is_trailer = last_trailer read
+          is_trailer = last_trailer place read
 
           pub bad_lines_lem : {b : Bool} → b ≡ bad_window t → b ≡ true → Err BadLines ≡ opened_of s
           unfolding opened_of

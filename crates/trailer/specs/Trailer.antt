@@ -2,8 +2,7 @@
 use Rattle.std.specs.Prelude.{Bool, true, false, not, ◌&&◌, ◌||◌, List, [], ◌∷◌, ◌++◌, ℕ, ◌+◌, ◌*◌, ◌-◌, eqb, ltb, length, take, drop, Ok, Err}
 use Rattle.event.specs.declared.Refusal.TheVariants.{TraceTooShort, TraceTooLong, MarkDiffers, BadLines, LengthDiffers}
 use Rattle.event.specs.Answers.{Check}
-use Rattle.event.specs.Numbers.{number_of}
-use Rattle.event.specs.Reply.{Reply}
+use Rattle.event.specs.Reply.{Reply, reply_by, refusal_reply}
 use Rattle.window.specs.Window.{bad_lines}
 use Rattle.codec.specs.Codec.{u16_at, u32_at, u16_bytes, u32_bytes}
 use Rattle.records.specs.Record.{record_size}
@@ -72,8 +71,7 @@ opened_of s = opened_for (first_broken (file_limits s)) (trailer_of s)
 
 -- a trailer read: offset, count, lines
 abbrev pub opened_reply : Opened → Reply
-opened_reply (Err x) = Reply.refused (number_of x) 0
-opened_reply (Ok t) = Reply.values (t.offset ∷ t.count ∷ t.lines ∷ [])
+opened_reply o = reply_by (λ (t : Trailer). t.offset ∷ t.count ∷ t.lines ∷ []) refusal_reply o
 
 -- a trailer as the writer puts it. That exactly these bytes are read as these fields says what the definitions above mean
 abbrev pub trailer_with : (offset count lines : ℕ) → List ℕ

@@ -28,10 +28,7 @@ fn read_trailer(t: &[u8]) -> Trailer
 pub fn trailer(s: &[u8]) -> Trailer
     ensures { result ≡ trailer_of s.now }
 {
-    if s.len() < 16 {
-        return read_trailer(s);
-    }
-    let at = s.len() - 16;
+    let at = s.len().saturating_sub(16);
     read_trailer(&s[at..])
 }
 
@@ -39,10 +36,7 @@ pub fn trailer(s: &[u8]) -> Trailer
 fn is_bad_window(t: Trailer) -> bool
     ensures { result ≡ bad_window t }
 {
-    match window::check_lines(t.lines) {
-        Err(_) => true,
-        Ok(()) => t.zero != 0,
-    }
+    window::check_lines(t.lines).is_err() || t.zero != 0
 }
 
 // Whether the records and the trailer end where the trace ends: offset + 12 × count + 16 is the length.
@@ -56,13 +50,12 @@ fn ends_at(t: Trailer, len: usize) -> bool
 pub fn open(s: &[u8]) -> Result<Trailer, Refusal>
     ensures { result ≡ opened_of s.now }
 {
-    if s.len() < 16 {
+    let Some(at) = s.len().checked_sub(16) else {
         return Err(Refusal::TraceTooShort);
-    }
+    };
     if 65536 < s.len() {
         return Err(Refusal::TraceTooLong);
     }
-    let at = s.len() - 16;
     let bytes = &s[at..];
     if !has_mark(bytes) {
         return Err(Refusal::MarkDiffers);

@@ -4,8 +4,7 @@ use Rattle.std.specs.Prelude.{List, [], ◌∷◌, ◌++◌, ℕ, ◌*◌, ltb, 
 use Rattle.event.specs.declared.Record.{Record}
 use Rattle.event.specs.declared.Refusal.TheVariants.{AreaTooShort}
 use Rattle.event.specs.Answers.{Answer, refused_at, totals}
-use Rattle.event.specs.Numbers.{number_of}
-use Rattle.event.specs.Reply.{Reply}
+use Rattle.event.specs.Reply.{Reply, reply_by, trace_refusal_reply, totals_values}
 use Rattle.codec.specs.Codec.{finding_size, finding_bytes}
 use Rattle.history.specs.History.{History}
 use Rattle.history.specs.Interval.{epoch_at}
@@ -54,8 +53,7 @@ verdict_of trace area = verdict_for (trace_check trace area) (history_of trace) 
 
 -- a trace: the refusal's number and its record's number, or events, fences and the count of findings other than none
 abbrev pub verdict_reply : Verdict → Reply
-verdict_reply (Err r) = Reply.refused (number_of r.refusal) r.at
-verdict_reply (Ok t) = Reply.values (t.events ∷ t.fences ∷ t.findings ∷ [])
+verdict_reply v = reply_by totals_values trace_refusal_reply v
 
 -- the bytes of an event's finding, with its site
 abbrev pub bytes_for : Record → Answer → List ℕ

@@ -1,5 +1,6 @@
 -- The writer and its area after a call that is read from bytes.
-use Rattle.std.specs.Prelude.{ℕ, zero, suc, ◌+◌, ◌*◌, ◌%◌, min, Bool, cond, ◌||◌, List, [], ◌∷◌, ◌++◌, length, take, drop, ◌==◌, nat_le, slice_index, slice_index_or, slice_set, Ok, Err}
+use Rattle.std.specs.Prelude.{ℕ, zero, suc, ◌+◌, ◌*◌, ◌%◌, min, Bool, cond, ◌||◌, List, [], ◌∷◌, ◌++◌, length, take, drop, ◌==◌, nat_le, slice_index, slice_index_or, slice_set}
+use Rattle.std.specs.Result.{result_unwrap_or}
 use Rattle.codec.specs.Codec.{u16_at, u32_at}
 use Rattle.codec.specs.Placed.{placed}
 use Rattle.records.specs.Record.{record_size, padded}
@@ -13,8 +14,7 @@ writer_of s = writer_with (u16_at s 2) (u32_at s 4) (u32_at s 8) (slice_index s 
 
 -- a refused start leaves the writer as it was
 abbrev pub after_start : Started → Writer → Writer
-after_start (Ok next) w = next
-after_start (Err x) w = w
+after_start s w = result_unwrap_or s w
 
 -- the record in a call
 abbrev pub record_in : List ℕ → List ℕ

@@ -24,13 +24,13 @@ fn writer_of(bytes: &[u8]) -> Writer
 // A start with so many lines, and its answer; the line goes on.
 fn print_start<W: Write>(out: &mut W, lines: u16, s: Result<Writer, Refusal>) {
     let _ = write!(out, "start {lines}");
-    call_lines::reply(out, replies::of_started(s));
+    call_lines::reply(out, replies::of(s));
 }
 
 // An event written, and its answer; the line goes on.
 fn print_write<W: Write>(out: &mut W, bytes: &[u8], c: Result<(), Refusal>) {
     call_lines::record(out, b"write ", bytes);
-    call_lines::reply(out, replies::of_check(c));
+    call_lines::reply(out, replies::of(c));
 }
 
 // A start, and the writer after it.
@@ -40,21 +40,17 @@ fn start<W: Write>(out: &mut W, area: &mut [u8], preamble: &[u8], w: Writer, lin
 {
     let s = writer::start(area, preamble, lines);
     print_start(out, lines, s);
-    match s {
-        Err(_) => w,
-        Ok(next) => next,
-    }
+    s.unwrap_or(w)
 }
 
 // An event as the bytes of a record, and the writer after it.
-fn write<W: Write>(out: &mut W, area: &mut [u8], w: Writer, bytes: &[u8]) -> Writer
+fn write<W: Write>(out: &mut W, area: &mut [u8], mut w: Writer, bytes: &[u8]) -> Writer
     ensures value { result ≡ (bytes_written_of area.old w bytes.now).writer }
     ensures area_after { area.new ≡ area_bytes_written area.old w bytes.now }
 {
-    let x = writer::write_bytes(area, w, bytes);
-    let check = x.check;
-    print_write(out, bytes, check);
-    x.writer
+    let c = writer::write_bytes(area, &mut w, bytes);
+    print_write(out, bytes, c);
+    w
 }
 
 // The file closed.

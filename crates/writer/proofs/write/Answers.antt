@@ -1,6 +1,5 @@
--- `writer::write` meets its contract: refused it changes nothing, accepted it lays the record behind the last one.
+-- `writer::write` meets its contract: accepted it lays the record behind the last one.
 use mathlib.Core.Path.{sym}
-use native.Mathlib.Omega.{arith}
 use lib.ListN.{length}
 use Rattle.records.specs.Record.{record_bytes}
 use Rattle.file.specs.Write.{records_end, view_of}
@@ -8,15 +7,16 @@ use Rattle.file.proofs.Passed.{event_passed, own_passed}
 use Rattle.file.proofs.Outcomes.{area_laid}
 use Rattle.writer.proofs.write.Goals as goal
 
-pub next-requires : goal.next-requires
-next-requires c =
+pub next-requires-clause-passed : goal.next-requires-clause-passed
+next-requires-clause-passed c =
     let k = c.args in
-    let f = event_passed (length k.area.now) (records_end k.w) (view_of k.w) k.r.event (sym c.in-Ok.ensures) in
-    (own_passed _ _ (view_of k.w) k.r.event f, omega (arith, f.short))
+    let v = view_of k.w.now in
+    own_passed _ _ v k.r.event (event_passed (length k.area.now) (records_end k.w.now) v k.r.event (sym c.in_ok-check_write.ensures))
 
-pub returns-in-Ok-clause-area_after : goal.returns-in-Ok-clause-area_after
-returns-in-Ok-clause-area_after c =
+pub returns-clause-area_after : goal.returns-clause-area_after
+returns-clause-area_after c =
     let k = c.args in
-    let e = sym c.in-Ok.ensures in
-    let f = event_passed (length k.area.now) (records_end k.w) (view_of k.w) k.r.event e in
-    area_laid (records_end k.w) (record_bytes k.r.event k.r.site) k.area.now e f.enough c.records_end.ensures c.record_bytes-bytes.ensures c.put.ensures
+    let w = k.w.now in
+    let e = sym c.in_ok-check_write.ensures in
+    let f = event_passed (length k.area.now) (records_end w) (view_of w) k.r.event e in
+    area_laid (records_end w) (record_bytes k.r.event k.r.site) k.area.now e f.enough c.records_end.ensures c.record_bytes-bytes.ensures c.put.ensures
