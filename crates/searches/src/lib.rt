@@ -51,8 +51,8 @@ impl<'a> Places for Entries<'a> {
     fn passes(&self, at: usize) -> bool {
         let x = self.xs[at];
         let y = self.ys[at];
-        // stays: a value to match on, and no closure: that needs clauses on what it may be asked, and no public function over tables has a
-        // `requires` (docs/DECISIONS.md, 29); a type for each of the five tests is five impls in place of these five lines
+        // stays: a value to match on, and no closure: with one, each public search would have a `requires` on what it may be asked, where it
+        // has none now; a type for each of the five tests is five impls in place of these five lines
         match self.test {
             Test::Since(n) => n < x,
             Test::NotSince(n) => x <= n,

@@ -16,7 +16,7 @@ fn fill(xs: &mut [u16], at: usize, n: usize, x: u16)
     requires { at + n ≤ length xs.old }
     ensures { xs.new ≡ filled x at n xs.old }
 {
-    // stays: with `fill` of std small stores take FILLA instructions against FILLB
+    // stays: with `fill` of std small stores take 1,532,569 instructions against 1,458,536, many fences 16,248,654 against 15,744,652
     for i in 0..n {
         xs[at + i] = x;
     }
