@@ -10,7 +10,7 @@ ghost use Rattle.tables.specs.View.{limits_of, of_run};
 ghost use Rattle.events.specs.Next.{one_more, counted_with};
 ghost use Rattle.events.specs.Give.{next_of, give_of};
 
-use event::{Event, Finding, Range, Record, Refusal, numbers};
+use event::{Event, Finding, Range, Record, Refusal};
 use std::num;
 use tables::{Counts, Run};
 
@@ -18,7 +18,7 @@ use tables::{Counts, Run};
 fn findings_after(n: u16, f: Finding) -> u16
     ensures { result ≡ (if is_none f then n else one_more n) }
 {
-    if numbers::fields(f).kind == 0 {
+    if matches!(f, Finding::None) {
         n
     } else {
         num::wrapping_add_u16(n, 1)

@@ -1,12 +1,12 @@
 -- Before the loop no fence was given. Each turn gives one more.
-use Rattle.std.proofs.Common.{add-one, rules}
+use Rattle.std.proofs.Common.{refl, add-one}
 use Rattle.engine_runs.specs.Runs.{after_fences}
 use Rattle.engine_runs.proofs.calls.give_fences.Goals as goal
 
 pub loop-i-init : goal.loop-i-init
 unfolding after_fences
-loop-i-init c = search rules
+loop-i-init c = refl
 
 pub loop-i-preserved : goal.loop-i-preserved
 unfolding after_fences
-loop-i-preserved c = (search rules, rw (add-one, c.give-g.ensures, c.loop-i.invariant.1))
+loop-i-preserved c = rw (add-one, c.give.ensures.run_after, c.loop-i.invariant)
