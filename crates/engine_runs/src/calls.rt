@@ -8,20 +8,14 @@ use event::{Event, Finding, Record, Refusal};
 use std::io::Write;
 use tables::Run;
 
-// A fresh window of so many lines, and what the check says.
-fn print_fresh<W: Write>(out: &mut W, lines: u16, c: Result<(), Refusal>) {
-    let _ = write!(out, "fresh {lines}");
-    call_lines::answered(out, replies::of(c));
-}
-
-// A fresh window, and the run that it hands over.
-fn fresh<W: Write>(out: &mut W, lines: u16) -> Run
-    ensures { result ≡ (fresh_of lines).run }
+// A fresh window of so many lines, what the check says, and its run in place of the other.
+fn fresh<W: Write>(out: &mut W, run: &mut Run<4096>, lines: u16)
+    ensures { run.new ≡ (fresh_of lines).run }
 {
     let w = engine::fresh(lines);
-    let check = w.check;
-    print_fresh(out, lines, check);
-    w.run
+    let _ = write!(out, "fresh {lines}");
+    call_lines::answered(out, replies::of(w.check));
+    *run = w.run;
 }
 
 // An event given in the bytes of a record, and its answer.
@@ -30,84 +24,60 @@ fn print_given<W: Write>(out: &mut W, bytes: &[u8], a: Result<Finding, Refusal>)
     call_lines::answered(out, replies::of(a));
 }
 
-// An event given, and the run after it. A record that cannot be read changes nothing.
-fn give<W: Write>(out: &mut W, run: Run, bytes: &[u8]) -> Run
-    ensures { result ≡ after_record run (parsed bytes.now) }
+// An event given. A record that cannot be read changes nothing.
+fn give<W: Write>(out: &mut W, run: &mut Run<4096>, bytes: &[u8])
+    ensures { run.new ≡ after_record run.old (parsed bytes.now) }
 {
     match records::read_record(bytes) {
-        Err(x) => {
-            print_given(out, bytes, Err(x));
-            run
-        }
-        Ok(r) => {
-            let g = engine::give(run, r);
-            let answer = g.answer;
-            print_given(out, bytes, answer);
-            g.run
-        }
+        Err(x) => print_given(out, bytes, Err(x)),
+        Ok(r) => print_given(out, bytes, engine::give(run, r)),
     }
 }
 
 // A byte asked.
-fn ask<W: Write>(out: &mut W, run: Run, byte: u16) {
-    let a = engine::ask(run, byte);
+fn ask<W: Write>(out: &mut W, run: &Run<4096>, byte: u16) {
     let _ = write!(out, "ask {byte}");
-    call_lines::answered(out, replies::of(a));
+    call_lines::answered(out, replies::of(engine::ask(run, byte)));
 }
 
 // The run closed.
-fn close<W: Write>(out: &mut W, run: Run) {
-    let c = engine::close(run);
+fn close<W: Write>(out: &mut W, run: &Run<4096>) {
     let _ = write!(out, "close");
-    call_lines::answered(out, replies::of(c));
+    call_lines::answered(out, replies::of(engine::close(run)));
 }
 
 // The run asked for its mean exposure.
-fn expose<W: Write>(out: &mut W, run: Run) {
-    let e = exposure::exposure(run);
+fn expose<W: Write>(out: &mut W, run: &Run<4096>) {
     let _ = write!(out, "exposure");
-    call_lines::answered(out, replies::of(e));
+    call_lines::answered(out, replies::of(exposure::exposure(run)));
 }
 
-// So many fences given, with no line printed, and the run after them.
-fn give_fences(run: Run, count: u16) -> Run
-    ensures { result ≡ after_fences run count }
+// So many fences given, with no line printed.
+fn give_fences(run: &mut Run<4096>, count: u16)
+    ensures { run.new ≡ after_fences run.old count }
 {
     let fence = Record {
         event: Event::Fence,
         site: 0,
     };
-    let mut next = run;
     for _ in 0..count {
-        let g = engine::give(next, fence);
-        next = g.run;
+        let _ = engine::give(run, fence);
     }
-    next
 }
 
-// The call in 12 bytes, and the run after it: kinds 1 to 8 are events, 16 a fresh window, 17 a byte asked, 18 a closing, 19 fences, 20 the mean
-// exposure.
-pub fn call<W: Write>(out: &mut W, run: Run, bytes: &[u8]) -> Run
-    ensures { result ≡ after_call run bytes.now }
+// The call in 12 bytes: kinds 1 to 8 are events, 16 a fresh window, 17 a byte asked, 18 a closing, 19 fences, 20 the mean exposure.
+pub fn call<W: Write>(out: &mut W, run: &mut Run<4096>, bytes: &[u8])
+    ensures { run.new ≡ after_call run.old bytes.now }
 {
     let number = codec::u16_at(bytes, 2);
     // stays: the kind is a byte of the file, read in this one match, and `after_call` speaks of that byte: an enum would need a match more,
     // which makes it.
     match codec::byte_at(bytes, 0) {
-        16 => fresh(out, number),
-        17 => {
-            ask(out, run, number);
-            run
-        }
-        18 => {
-            close(out, run);
-            run
-        }
+        16 => fresh(out, run, number),
+        17 => ask(out, run, number),
+        18 => close(out, run),
         19 => give_fences(run, number),
-        20 => {
-            expose(out, run);
-            run
-        }
+        20 => expose(out, run),
         _ => give(out, run, bytes),
     }
 }

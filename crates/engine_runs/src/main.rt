@@ -37,7 +37,7 @@ fn make_calls<R: Read, W: Write>(
             return;
         }
         if bytes[0] < 32 {
-            run = calls::call(out, run, &bytes);
+            calls::call(out, &mut run, &bytes);
         } else {
             room = writer_calls::setting::area(area, room, &bytes);
             free = writer_calls::setting::preamble(preamble, free, &area[..room], &bytes);

@@ -75,6 +75,7 @@ fn lost_at(number: u16, stored: &[u16; 4096], s: Option<u16>) -> Finding
 }
 
 // A persisted with this number, after this latest fence: holds or lost.
+#[inline(always)] // in both of its callers: the runs with and without epochs
 pub fn of_persisted(
     number: u16,
     fence: u16,

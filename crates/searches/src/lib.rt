@@ -156,6 +156,7 @@ fn line_stop(b: usize, end: usize) -> usize
 
 // The lowest byte of a range whose interval is open, line by line. Lines that have no open byte by their last store and their last
 // write-back are passed over.
+#[inline(always)] // in both of its callers: the runs with and without epochs
 pub fn first_open(
     fence: u16,
     stored: &[u16; 4096],

@@ -4,4 +4,4 @@ use Rattle.engine_runs.specs.Runs.{after_fences}
 use Rattle.engine_runs.proofs.calls.give_fences.Given as goal
 
 abbrev pub invariant-loop : goal.invariant-loop
-invariant-loop l = l.next ≡ after_fences l.fn.run l.counter
+invariant-loop l = l.run ≡ after_fences l.initial.run l.counter
