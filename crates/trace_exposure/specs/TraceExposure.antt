@@ -1,8 +1,8 @@
 -- The mean exposure of a whole trace, read off its bytes, by what its accepted events say.
-use Rattle.std.specs.Prelude.{List, [], ◌∷◌, ℕ, Ok, Err}
+use Rattle.std.specs.Prelude.{List, ℕ, Ok, Err}
 use Rattle.event.specs.Reply.{Reply, reply_by, trace_refusal_reply}
 use Rattle.history.specs.Interval.{interval_of}
-use Rattle.exposure.specs.Answers.{Exposed, mean}
+use Rattle.exposure.specs.Answers.{Exposed}
 use Rattle.exposure.specs.Exposure.{exposure_in, exposure_of, mean_values}
 use Rattle.trace.specs.Answers.{TraceCheck}
 use Rattle.trace.specs.Records.{lines_in}
