@@ -18,7 +18,7 @@ use Rattle.history.specs.Transaction.{depth}
 use Rattle.history.specs.Refused.{First, NoneBroken}
 use Rattle.history.specs.Given.{accepted}
 use Rattle.history.proofs.Given.{first_broken_lem, none_broken}
-use Rattle.exposure.specs.Answers.{Exposed, mean}
+use Rattle.exposure.specs.Answers.{Exposed}
 use Rattle.exposure.specs.Exposure.{exposure_in, exposure_of, exposure_reply}
 use Rattle.exposure.proofs.Meaning.{mean_exactly, none_closed, some_closed}
 use Rattle.trace.specs.Answers.{TraceCheck}

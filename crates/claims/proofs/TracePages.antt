@@ -10,7 +10,7 @@ use lib.ListN.{length, take, drop, get_or, length-append}
 use lib.Seq.{take_at}
 use borrow.Author.Tests.{le-ltb, lt-ltb, eq-eqb}
 use Rattle.event.specs.declared.Finding.{Finding}
-use Rattle.event.specs.Answers.{Parsed, refused_at}
+use Rattle.event.specs.Answers.{Parsed}
 use Rattle.event.specs.Numbers.{fields_of}
 use Rattle.event.specs.Reply.{Reply}
 use Rattle.codec.specs.Codec.{finding_size, finding_bytes}

@@ -18,6 +18,7 @@ fn length_only(n: Numbers) -> [u32; 2]
 }
 
 // A writer as four numbers.
+// stays: a From of [u32; 4] is refused here (orphan-impl, neither type is this crate's), and four numbers are a writer for C alone
 fn numbers_of(w: Writer) -> [u32; 4]
     ensures { result ≡ writer_numbers w }
 {

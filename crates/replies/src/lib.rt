@@ -212,7 +212,7 @@ impl Values for SitedInterval {
     }
 }
 
-// A file closed: its length.
+// A file closed: its length, in 32 bits.
 pub fn of_closed(c: Result<usize, Refusal>) -> Numbers
     ensures { result ≡ numbers_of (closed_reply (in_bits32 c)) }
 {

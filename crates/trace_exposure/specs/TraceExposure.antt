@@ -1,5 +1,5 @@
 -- The mean exposure of a whole trace, read off its bytes, by what its accepted events say.
-use Rattle.std.specs.Prelude.{List, [], ◌∷◌, ℕ, Ok, Err}
+use Rattle.std.specs.Prelude.{List, ℕ, Ok, Err}
 use Rattle.event.specs.Reply.{Reply, reply_by, trace_refusal_reply}
 use Rattle.history.specs.Interval.{interval_of}
 use Rattle.exposure.specs.Answers.{Exposed}

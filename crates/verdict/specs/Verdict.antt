@@ -3,7 +3,7 @@
 use Rattle.std.specs.Prelude.{List, [], ◌∷◌, ◌++◌, ℕ, ◌*◌, ltb, length, drop, Ok, Err}
 use Rattle.event.specs.declared.Record.{Record}
 use Rattle.event.specs.declared.Refusal.TheVariants.{AreaTooShort}
-use Rattle.event.specs.Answers.{Answer, refused_at, totals}
+use Rattle.event.specs.Answers.{Answer, totals}
 use Rattle.event.specs.Reply.{Reply, reply_by, trace_refusal_reply, totals_values}
 use Rattle.codec.specs.Codec.{finding_size, finding_bytes}
 use Rattle.history.specs.History.{History}
