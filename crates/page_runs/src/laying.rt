@@ -27,14 +27,8 @@ fn written(area: &[u8], p: Result<u32, PageRefusal>) -> usize
     ensures { result ≡ min (written_of p) (length area.now) }
 {
     match p {
-        Err(PageRefusal {
-            refusal: _,
-            position: _,
-        }) => 0,
-        Ok(length) => {
-            let n = length as usize;
-            if n < area.len() { n } else { area.len() }
-        }
+        Err(_) => 0,
+        Ok(length) => area.len().min(length as usize),
     }
 }
 
