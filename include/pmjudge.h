@@ -217,8 +217,7 @@ enum pmjudge_interval_state {
  * the first number that applies: 1 to 5; then record by record 6, 7, 9, 18, 10 to 12; then 13; and
  * then the byte by 9 with the record 0, where it is past the trace's window.
  *
- * A call takes about 100 KB of the caller's stack: 49,408 bytes for tables, as many for a copy of
- * them that is asked, and little more.
+ * A call takes about 50 KB of the caller's stack: 49,408 bytes for tables, and little more.
  */
 void pmjudge_interval(const uint8_t *trace, size_t trace_length, uint16_t byte,
                       uint32_t answer[11]);
