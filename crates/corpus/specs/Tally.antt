@@ -3,7 +3,7 @@ use Rattle.std.specs.Prelude.{ℕ, zero, suc, ◌+◌, ◌*◌, ◌%◌, List, s
 use Rattle.event.specs.Reply.{Reply}
 use Rattle.verdict.specs.Answers.{Verdict}
 use Rattle.codec.specs.Codec.{finding_size}
-use Rattle.event.specs.Answers.{refused_at, totals}
+use Rattle.event.specs.Answers.{totals}
 
 -- one more at a place; 32 bits wrap
 abbrev pub counted : ℕ → List ℕ → List ℕ

@@ -8,7 +8,7 @@ use native.Mathlib.Omega.{arith}
 use lib.ListN.{length, length-append}
 use Rattle.event.specs.declared.Record.{Record}
 use Rattle.event.specs.declared.Fields.{Fields}
-use Rattle.event.specs.Answers.{Answer, refused_at}
+use Rattle.event.specs.Answers.{Answer}
 use Rattle.event.specs.Numbers.{fields_of, number_of}
 use Rattle.history.specs.Given.{reported}
 use Rattle.trace.specs.Answers.{TraceCheck}

@@ -1,7 +1,7 @@
 -- The page area after a call that is read from bytes.
 use Rattle.std.specs.Prelude.{ℕ, Bool, cond, ◌||◌, List, length, ◌==◌, Ok, Err}
 use Rattle.writer_calls.specs.Writing.{pattern}
-use Rattle.pages.specs.Answers.{Paged, refused_finding}
+use Rattle.pages.specs.Answers.{Paged}
 use Rattle.pages.specs.Paged.{page_area_after}
 
 -- the findings laid out in the area, each byte of which is A5h before

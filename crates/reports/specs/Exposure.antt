@@ -5,8 +5,6 @@ use Rattle.text.specs.Text.{ascii, decimal}
 use Rattle.lines.specs.Lines.{refusal_line}
 use Rattle.trace_exposure.specs.Answers.{TraceExposure}
 use Rattle.trace_exposure.specs.TraceExposure.{trace_exposure_of}
-use Rattle.exposure.specs.Answers.{mean}
-use Rattle.event.specs.Answers.{refused_at}
 
 unfoldable pub exposure_line : (quotient remainder divisor : ℕ) → List ℕ
 exposure_line quotient remainder divisor =

@@ -5,7 +5,6 @@ use Rattle.trace.specs.Records.{events_in}
 use Rattle.verdict.specs.Answers.{Verdict}
 use Rattle.verdict.specs.Verdict.{answers_of, findings_bytes, verdict_of}
 use Rattle.lines.specs.Lines.{refusal_line}
-use Rattle.event.specs.Answers.{refused_at, totals}
 
 abbrev pub report_for : Verdict → List ℕ → List ℕ
 report_for (Err r) trace = refusal_line (number_of r.refusal) r.at

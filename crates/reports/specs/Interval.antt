@@ -6,9 +6,8 @@ use Rattle.codec.specs.Codec.{u16_at}
 use Rattle.text.specs.Text.{ascii, decimal}
 use Rattle.lines.specs.Lines.{refusal_line}
 use Rattle.interval_lines.specs.Lines.{interval_text}
-use Rattle.trace_interval.specs.Answers.{TraceInterval, sited}
+use Rattle.trace_interval.specs.Answers.{TraceInterval}
 use Rattle.trace_interval.specs.TraceInterval.{trace_interval_of}
-use Rattle.event.specs.Answers.{refused_at}
 
 -- an input has the byte's number in two bytes, the lower first, and then the trace
 abbrev pub byte_in : List ℕ → ℕ

@@ -3,7 +3,7 @@ use Rattle.std.specs.Prelude.{List, ℕ, Ok, Err}
 use Rattle.event.specs.Numbers.{number_of}
 use Rattle.lines.specs.Lines.{refusal_line}
 use Rattle.page_layout.specs.Pages.{pages_of}
-use Rattle.pages.specs.Answers.{Paged, refused_finding}
+use Rattle.pages.specs.Answers.{Paged}
 use Rattle.pages.specs.Paged.{paged_of}
 
 abbrev pub report_for : Paged → List ℕ → List ℕ
