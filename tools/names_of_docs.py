@@ -186,6 +186,8 @@ RETIRED = {
     "arg": "of the older kit, weighed and not taken (DECISIONS 156)",
     "RT_JOBS": "of the older kit (DECISIONS 73)",
     "scripts/rt": "went with the port (DECISIONS 72)",
+    "put_found": "went with the design pass (docs/DESIGN-PASS.md)",
+    "judge_records": "went with the design pass (docs/DESIGN-PASS.md)",
     "nine_before_eight": "an edit that went with request 5",
     "claims/eight_before_seven": "an edit that went with request 5",
     "LINE_STARTS": "a constant that went with request 6",
