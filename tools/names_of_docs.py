@@ -174,7 +174,7 @@ def renamed(old, new):
 
 # Commands and kits, words of what is printed and of the language, and letters that a document itself brings in.
 WORDS = {"rt", "cargo", "gcc", "g++", "xargs", "nm", "out-of-order", "write-back", "written-twice", "logged-twice", "no-bytes", "stdout", "exclude",
-         "requires", "Drop", "c.put.ensures", "_lem", "R", "R.part", "p", "rattle-kit-5b-plain", "rattle-kit-13f"}
+         "requires", "Drop", "Result", "Option", "Ok", "E", "itoa", "stays:", "c.put.ensures", "_lem", "R", "R.part", "p", "rattle-kit-5b-plain", "rattle-kit-13f"}
 
 # What the documents themselves say is gone.
 RETIRED = {
