@@ -65,6 +65,7 @@ pub enum Finding {
 }
 
 // A finding's kind and fields as the paper lists them. Fields that its kind does not mention are 0.
+// stays: the kind as a number, since these are what 12 bytes of an area say, whatever they are: `fields_at` promises them for every byte
 #[derive(Clone, Copy, Default)]
 pub struct Fields {
     pub kind: u8,

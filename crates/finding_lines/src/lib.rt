@@ -19,6 +19,7 @@ pub struct Row {
 }
 
 // The name of a finding's kind; a number that is no kind has none.
+// stays: a number here and in `is_printed`, since both promise an answer for every byte of an area, also one that is no kind
 pub fn name(kind: u8) -> &'static [u8]
     ensures { result.now ≡ name_of kind }
 {
@@ -136,6 +137,7 @@ impl Iterator for Shown<'_> {
     ghost remaining = { item_count rows_left };
 
     fn next(&mut self) -> Option<Row> {
+        // stays: the range that is left is the iterator's own state, which `next` moves on, and a `for` would need a copy of it
         while self.before < self.count {
             let row = row_at(self.area, self.before);
             self.before += 1;

@@ -22,7 +22,7 @@ fn put_name(text: &mut Cursor<'_>, kind: u8)
 }
 
 // Lost, kept, moment and store, each right in a field of 7 columns.
-// stays: beside `put_values` in finding_lines, which puts a blank before each: one function for both would take what puts a number as a
+// stays: beside `put_values` in finding_lines, no twin: that one puts a blank before each. One function for both would take what puts a number as a
 // closure, and is no plainer than four calls.
 fn put_values(text: &mut Cursor<'_>, f: Fields)
     ensures { Puts (values (decimal f.lost) (decimal f.kept) (decimal f.moment) (decimal f.store)) text.old text.new }

@@ -49,6 +49,7 @@ fn fitting(space: &[u8], at: usize, count: u32) -> usize
 }
 
 // Puts so many findings from a place on.
+// stays: a space and a place in it, here, in `zero` and in `set_byte`, since they are lent one field of `Findings` while the other is read
 fn put_findings(space: &mut [u8], at: usize, bytes: &[u8], count: usize)
     requires { 12 * count ≤ length space.old - at }
     ensures { space.new ≡ findings_put space.old at bytes.now count }

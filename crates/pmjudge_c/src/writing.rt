@@ -74,6 +74,7 @@ pub extern "C" fn pmjudge_writer_start(
 }
 
 // Writes an event, which comes as numbers.
+// stays: numbers, since it is called from C
 #[unsafe(no_mangle)]
 pub extern "C" fn pmjudge_writer_event(
     area: &mut [u8],

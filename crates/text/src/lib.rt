@@ -7,7 +7,8 @@ ghost use Rattle.text.specs.Field.{blanks as Field·blanks, right as Field·righ
 
 // A slice that text is put into, and the place where the next byte goes.
 // stays: of its own beside std's `Cursor<&mut [u8]>`, which is no plainer: no clause of that one's `write` says that it still holds the
-// slice that was lent, so that nobody would know what is in the slice afterwards; and its result has to be taken at each word.
+// slice that was lent, so that nobody would know what is in the slice afterwards; and its result has to be taken at each word. `write!`
+// and `Display` say what was written only where they answer Ok, and every put here says it for a full slice too.
 #[derive(Drop)]
 pub struct Cursor<'a> {
     bytes: &'a mut [u8],
