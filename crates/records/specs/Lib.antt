@@ -1,2 +1,3 @@
 -- The bytes of a record.
 pub mod Record
+pub mod Kind  -- kinds and their numbers

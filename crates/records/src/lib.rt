@@ -3,9 +3,44 @@
 
 ghost use Rattle.std.specs.Prelude.{◌≡◌, ◌||◌, ◌+◌, ◌≤◌, length};
 ghost use Rattle.codec.specs.Codec.{u16_at};
-ghost use Rattle.records.specs.Record.{range_at, is_kind, uses_a, uses_b, is_zero, is_clear, event_of, parsed, parsed_fields, padded};
+ghost use Rattle.records.specs.Kind.{kind_number, Decodes};
+ghost use Rattle.records.specs.Record.{range_at, uses_a, uses_b, is_zero, is_clear, event_of, parsed, parsed_fields, padded};
 
 use event::{Event, Range, Record, Refusal};
+
+// The eight kinds of event, with their numbers.
+#[derive(Clone, Copy)]
+enum Kind {
+    Store = 1,
+    WriteBack = 2,
+    Fence = 3,
+    Begin = 4,
+    Log = 5,
+    End = 6,
+    Persisted = 7,
+    Ordered = 8,
+}
+
+// The kind with a number, or the refusal 6.
+impl TryFrom<u8> for Kind {
+    type Error = Refusal;
+
+    ghost try_from_gives = { Decodes };
+
+    fn try_from(number: u8) -> Result<Self, Refusal> {
+        match number {
+            1 => Ok(Kind::Store),
+            2 => Ok(Kind::WriteBack),
+            3 => Ok(Kind::Fence),
+            4 => Ok(Kind::Begin),
+            5 => Ok(Kind::Log),
+            6 => Ok(Kind::End),
+            7 => Ok(Kind::Persisted),
+            8 => Ok(Kind::Ordered),
+            _ => Err(Refusal::UnknownKind),
+        }
+    }
+}
 
 // The u16 at a place, both of whose bytes are there.
 fn u16_in(s: &[u8], at: usize) -> u16
@@ -33,25 +68,18 @@ fn is_zero(r: Range) -> bool
     r == Range::default()
 }
 
-// Whether the number is an event's kind.
-fn is_kind(kind: u8) -> bool
-    ensures { result ≡ is_kind kind }
-{
-    matches!(kind, 1..=8)
-}
-
 // Whether the kind has a range A.
-fn uses_a(kind: u8) -> bool
-    ensures { result ≡ uses_a kind }
+fn uses_a(kind: Kind) -> bool
+    ensures { result ≡ uses_a (kind_number kind) }
 {
-    !matches!(kind, 3 | 4 | 6)
+    !matches!(kind, Kind::Fence | Kind::Begin | Kind::End)
 }
 
 // Whether the kind has a range B.
-fn uses_b(kind: u8) -> bool
-    ensures { result ≡ uses_b kind }
+fn uses_b(kind: Kind) -> bool
+    ensures { result ≡ uses_b (kind_number kind) }
 {
-    kind == 8
+    matches!(kind, Kind::Ordered)
 }
 
 // Whether a range is used or both its fields are 0.
@@ -62,25 +90,25 @@ fn used_or_zero(used: bool, r: Range) -> bool
 }
 
 // Whether the zero byte and the fields that the kind lacks are 0.
-fn is_clear(kind: u8, zero: u8, a: Range, b: Range) -> bool
-    ensures { result ≡ is_clear kind zero a b }
+fn is_clear(kind: Kind, zero: u8, a: Range, b: Range) -> bool
+    ensures { result ≡ is_clear (kind_number kind) zero a b }
 {
     zero == 0 && used_or_zero(uses_a(kind), a) && used_or_zero(uses_b(kind), b)
 }
 
-// The event of a kind from 1 to 8.
-fn event_of(kind: u8, a: Range, b: Range) -> Event
-    ensures { result ≡ event_of kind a b }
+// The event of a kind with these ranges; those that the kind lacks are dropped.
+fn event_of(kind: Kind, a: Range, b: Range) -> Event
+    ensures { result ≡ event_of (kind_number kind) a b }
 {
     match kind {
-        1 => Event::Store(a),
-        2 => Event::WriteBack(a),
-        3 => Event::Fence,
-        4 => Event::Begin,
-        5 => Event::Log(a),
-        6 => Event::End,
-        7 => Event::Persisted(a),
-        _ => Event::Ordered(a, b),
+        Kind::Store => Event::Store(a),
+        Kind::WriteBack => Event::WriteBack(a),
+        Kind::Fence => Event::Fence,
+        Kind::Begin => Event::Begin,
+        Kind::Log => Event::Log(a),
+        Kind::End => Event::End,
+        Kind::Persisted => Event::Persisted(a),
+        Kind::Ordered => Event::Ordered(a, b),
     }
 }
 
@@ -99,9 +127,7 @@ pub fn padded(s: &[u8]) -> [u8; 12]
 pub fn read_fields(kind: u8, zero: u8, a: Range, b: Range, site: u16) -> Result<Record, Refusal>
     ensures { result ≡ parsed_fields kind zero a b site }
 {
-    if !is_kind(kind) {
-        return Err(Refusal::UnknownKind);
-    }
+    let kind = Kind::try_from(kind)?;
     if !is_clear(kind, zero, a, b) {
         return Err(Refusal::FieldSet);
     }
