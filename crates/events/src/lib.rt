@@ -44,7 +44,7 @@ fn store<const E: usize>(run: &mut Run<E>, a: Range) -> Finding
     ensures run_after { run.new ≡ next_of run.old (Event.Store a) result }
 {
     let counts = run.counts;
-    let finding = findings::of_store(counts, &run.logged, a);
+    let finding = findings::of_store(run, a);
     let next = counted(counts, finding);
     writes::store(next.events, &mut run.stored, &mut run.dirtied, a);
     intervals::open_bytes(&mut run.opened, a, counts.fences);
@@ -61,7 +61,7 @@ fn write_back<const E: usize>(run: &mut Run<E>, a: Range) -> Finding
     ensures value { result ≡ finding_by (of_run run.old) (Event.WriteBack a) }
     ensures run_after { run.new ≡ next_of run.old (Event.WriteBack a) result }
 {
-    let finding = findings::of_back(&run.dirtied, &run.backed, a);
+    let finding = findings::of_back(run, a);
     let next = counted(run.counts, finding);
     intervals::write_back(&mut run.written, &run.stored, a, next.events);
     writes::fill_lines(&mut run.backed, a, next.events);
@@ -116,7 +116,7 @@ fn log<const E: usize>(run: &mut Run<E>, a: Range) -> Finding
     ensures value { result ≡ finding_by (of_run run.old) (Event.Log a) }
     ensures run_after { run.new ≡ next_of run.old (Event.Log a) result }
 {
-    let finding = findings::of_log(run.counts, &run.logged, a);
+    let finding = findings::of_log(run, a);
     let next = counted(run.counts, finding);
     writes::fill_bytes(&mut run.logged, a, next.events);
     run.counts = next;
@@ -130,14 +130,7 @@ fn end<const E: usize>(run: &mut Run<E>) -> Finding
     ensures run_after { run.new ≡ next_of run.old Event.End result }
 {
     let counts = run.counts;
-    let finding = findings::of_end(
-        counts.events + 1,
-        counts,
-        &run.stored,
-        &run.fenced,
-        &run.dirtied,
-        &run.backed,
-    );
+    let finding = findings::of_end(counts.events + 1, run);
     run.counts = Counts {
         depth: counts.depth - 1,
         ..counted(counts, finding)
@@ -152,15 +145,7 @@ fn persisted<const E: usize>(run: &mut Run<E>, a: Range) -> Finding
     ensures run_after { run.new ≡ next_of run.old (Event.Persisted a) result }
 {
     let counts = run.counts;
-    let finding = findings::of_persisted(
-        counts.events + 1,
-        counts.fence,
-        &run.stored,
-        &run.fenced,
-        &run.dirtied,
-        &run.backed,
-        a,
-    );
+    let finding = findings::of_persisted(counts.events + 1, run, a);
     run.counts = counted(counts, finding);
     finding
 }
@@ -171,7 +156,7 @@ fn ordered<const E: usize>(run: &mut Run<E>, a: Range, b: Range) -> Finding
     ensures value { result ≡ finding_by (of_run run.old) (Event.Ordered a b) }
     ensures run_after { run.new ≡ next_of run.old (Event.Ordered a b) result }
 {
-    let finding = findings::of_ordered(&run.stored, &run.fenced, a, b);
+    let finding = findings::of_ordered(run, a, b);
     run.counts = counted(run.counts, finding);
     finding
 }

@@ -49,22 +49,21 @@ fn one_if_closed(i: Interval) -> u16
     u16::from(is_closed(i))
 }
 
-// The sums over the first bytes of the tables, so many of them.
-fn sum_bytes(
-    bytes: u16,
-    stored: &[u16; 4096],
-    fenced: &[u16; 4096],
-    opened: &[u16; 4096],
-    closed: &[u16; 4096],
-) -> Sums
+// The sums over the first bytes of a run's tables, so many of them.
+fn sum_bytes(bytes: u16, run: &Run<4096>) -> Sums
     requires { bytes ≤ table_bytes }
-    ensures value { result ≡ sums_of (interval_in stored.now fenced.now opened.now closed.now) bytes }
+    ensures value { result ≡ sums_of (interval_in run.now.stored run.now.fenced run.now.opened run.now.closed) bytes }
     ensures epochs_bound { result.epochs ≤ most_epochs * result.bytes }
 {
     let mut epochs: u32 = 0;
     let mut count: u16 = 0;
     for b in 0..bytes as usize {
-        let interval = tables::interval_from(stored[b], fenced[b], opened[b], closed[b]);
+        let interval = tables::interval_from(
+            run.stored[b],
+            run.fenced[b],
+            run.opened[b],
+            run.closed[b],
+        );
         epochs += epochs_at_risk(interval) as u32;
         count += one_if_closed(interval);
     }
@@ -95,6 +94,6 @@ pub fn exposure(run: &Run<4096>) -> Result<Mean, Refusal>
     ensures { result ≡ exposure_of run.now }
 {
     let bytes = 64 * tables::lines_of(run.counts);
-    let s = sum_bytes(bytes, &run.stored, &run.fenced, &run.opened, &run.closed);
+    let s = sum_bytes(bytes, run);
     mean_of(s.epochs, s.bytes)
 }

@@ -2,8 +2,6 @@
 use mathlib.Core.Path.{◌≡◌, refl, fun_ext}
 use mathlib.Core.Bool.{Bool, true, false, cond, not, ◌&&◌, ◌||◌}
 use mathlib.Core.Logic.{◌≢◌}
-use mathlib.Core.List.{List, []}
-use mathlib.Core.Option.{Option, none, some}
 use Prim.Native.Nat.{ℕ, zero, suc}
 use native.Mathlib.Omega.{arith}
 use lib.Dec.{eqb, ltb, leb}
@@ -13,11 +11,10 @@ use Rattle.event.specs.declared.Event.TheVariants.{Store, WriteBack, End, Persis
 use Rattle.event.specs.declared.Finding.TheVariants.{None, Unlogged}
 use Rattle.window.specs.Window.{line_of, word_of}
 use Rattle.ranges.specs.Ranges.{line_count}
-use Rattle.history.specs.Found.{Pair, lowest, lowest_in, lowest_pair, found_or, unlogged, clean, written_twice, warned_line, at_risk, breaks, in_order, finding_by}
-use Rattle.tables.specs.declared.Counts.{Counts}
+use Rattle.history.specs.Found.{lowest, lowest_in, lowest_pair, found_or, unlogged, clean, written_twice, warned_line, at_risk, breaks, in_order, finding_by}
 use Rattle.tables.specs.Run.{Run}
 use Rattle.tables.specs.Table.{entry}
-use Rattle.tables.specs.View.{run_of, no_counts, since_store, open_line, of_run}
+use Rattle.tables.specs.View.{since_store, open_line, of_run}
 use Rattle.tables.proofs.SinceStore.{open_at}
 use Rattle.searches.specs.declared.Test.TheVariants.{NotSince, Wasted}
 use Rattle.searches.specs.Tests.{passing, open_byte, lost_at_end}
@@ -34,22 +31,20 @@ broken_test zero ls lf line word = refl
 broken_test (suc ks) zero lf line word = rw (ne_eqb (suc ks) 0 (λ z. absurd (omega arith)))
 broken_test (suc ks) (suc ls) lf line word = rw (open_at (suc ls) lf (suc ks) (λ z. absurd (omega arith)))
 
-module _ (counts : Counts) (logged : List ℕ) (a : Range) where
+module _ (run : Run) where
   -- outside a transaction no store is unlogged
-  pub store_outside : counts.depth ≡ 0 → None ≡ finding_by (of_run (run_of counts [] logged [] [] [] [] [] [])) (Store a)
+  pub store_outside : (a : Range) → run.counts.depth ≡ 0 → None ≡ finding_by (of_run run) (Store a)
   unfolding finding_by
-  store_outside z =
-      rw (lowest_none (unlogged (of_run (run_of counts [] logged [] [] [] [] [] []))) a.length a.address (λ b h k. rw (eq-eqb counts.depth 0 z)))
+  store_outside a z = rw (lowest_none (unlogged (of_run run)) a.length a.address (λ b h k. rw (eq-eqb run.counts.depth 0 z)))
 
   -- inside one it goes by the logs
-  pub store_inside : counts.depth ≢ 0 →
-      found_or (lowest_in (passing (NotSince counts.begin) logged logged) a) None Unlogged ≡ finding_by (of_run (run_of counts [] logged [] [] [] [] [] [])) (Store a)
+  pub store_inside : (a : Range) → run.counts.depth ≢ 0 →
+      found_or (lowest_in (passing (NotSince run.counts.begin) run.logged run.logged) a) None Unlogged ≡ finding_by (of_run run) (Store a)
   unfolding finding_by
-  store_inside z =
-      let same : unlogged (of_run (run_of counts [] logged [] [] [] [] [] [])) ≡ passing (NotSince counts.begin) logged logged = fun_ext (λ b. rw (ne_eqb counts.depth 0 z)) in
+  store_inside a z =
+      let same : unlogged (of_run run) ≡ passing (NotSince run.counts.begin) run.logged run.logged = fun_ext (λ b. rw (ne_eqb run.counts.depth 0 z)) in
       rw same
 
-module _ (run : Run) where
   -- a write-back goes by the last store and the last write-back of each line
   pub back_found : (a : Range) →
       finding_by (of_run run) (WriteBack a) ≡
@@ -101,13 +96,3 @@ module _ (run : Run) where
       broken_test (entry run.stored kept) (entry run.stored lost) (entry run.fenced lost)
       (eqb (line_of kept) (line_of lost)) (eqb (word_of kept) (word_of lost)))) in
       rw same
-
-  -- and asks for no other tables
-  pub ordered_tables : (a b : Range) →
-      finding_by (of_run run) (Ordered a b) ≡ finding_by (of_run (run_of (no_counts 0) run.stored [] run.fenced [] [] [] [] [])) (Ordered a b)
-  unfolding finding_by
-  ordered_tables a b = go (lowest_pair (breaks (of_run run)) a b.address b.length)
-    where
-      go : (found : Option Pair) → in_order (of_run run) found ≡ in_order (of_run (run_of (no_counts 0) run.stored [] run.fenced [] [] [] [] [])) found
-      go none = refl
-      go (some p) = refl

@@ -1,43 +1,43 @@
-// The finding of each kind of event, from the tables before it. A range stands for the part of it that the tables have.
+// The finding of each kind of event, from the run before it. A range stands for the part of it that the tables have.
 #![tactic(auto)]
 
-ghost use Rattle.std.specs.Prelude.{◌≡◌, [], ℕ, ◌<◌};
+ghost use Rattle.std.specs.Prelude.{◌≡◌, ℕ, ◌<◌};
 ghost use Rattle.std.proofs.Math.Option.{some};
 ghost use Rattle.history.specs.Found.{lowest_in, finding_by};
 ghost use Rattle.tables.specs.Table.{in_tables};
-ghost use Rattle.tables.specs.View.{run_of, no_counts, of_run};
+ghost use Rattle.tables.specs.View.{of_run};
 ghost use Rattle.searches.specs.Tests.{found_by, open_byte};
 ghost use Rattle.findings.specs.Findings.{durable_at, ended_at};
 
 use event::{Event, Finding, Range};
 use pairs::Pair;
 use searches::Test;
-use tables::Counts;
+use tables::Run;
 
 // A store: unlogged, where a transaction is open.
-pub fn of_store(counts: Counts, logged: &[u16; 4096], a: Range) -> Finding
-    ensures { result ≡ finding_by (of_run (run_of counts [] logged.now [] [] [] [] [] [])) (Event.Store (in_tables a)) }
+pub fn of_store<const E: usize>(run: &Run<E>, a: Range) -> Finding
+    ensures { result ≡ finding_by (of_run run.now) (Event.Store (in_tables a)) }
 {
-    if counts.depth == 0 {
+    if run.counts.depth == 0 {
         return Finding::None;
     }
-    match searches::first_byte(Test::NotSince(counts.begin), logged, logged, a) {
+    let unlogged = Test::NotSince(run.counts.begin);
+    match searches::first_byte(unlogged, &run.logged, &run.logged, a) {
         None => Finding::None,
         Some(b) => Finding::Unlogged { lost: b },
     }
 }
 
 // A write-back: clean or written twice.
-pub fn of_back(dirtied: &[u16; 64], backed: &[u16; 64], a: Range) -> Finding
-    ensures { result ≡
-        finding_by (of_run (run_of (no_counts 0) [] [] [] [] [] [] dirtied.now backed.now)) (Event.WriteBack (in_tables a)) }
+pub fn of_back<const E: usize>(run: &Run<E>, a: Range) -> Finding
+    ensures { result ≡ finding_by (of_run run.now) (Event.WriteBack (in_tables a)) }
 {
-    match searches::first_line(Test::Wasted, dirtied, backed, a) {
+    match searches::first_line(Test::Wasted, &run.dirtied, &run.backed, a) {
         None => Finding::None,
         Some(l) => {
             let lost = window::line_start(l);
             let i = l as usize;
-            if dirtied[i] == 0 {
+            if run.dirtied[i] == 0 {
                 Finding::Clean { lost }
             } else {
                 Finding::WrittenTwice { lost }
@@ -47,10 +47,11 @@ pub fn of_back(dirtied: &[u16; 64], backed: &[u16; 64], a: Range) -> Finding
 }
 
 // A log: logged twice.
-pub fn of_log(counts: Counts, logged: &[u16; 4096], a: Range) -> Finding
-    ensures { result ≡ finding_by (of_run (run_of counts [] logged.now [] [] [] [] [] [])) (Event.Log (in_tables a)) }
+pub fn of_log<const E: usize>(run: &Run<E>, a: Range) -> Finding
+    ensures { result ≡ finding_by (of_run run.now) (Event.Log (in_tables a)) }
 {
-    match searches::first_byte(Test::Since(counts.begin), logged, logged, a) {
+    let twice = Test::Since(run.counts.begin);
+    match searches::first_byte(twice, &run.logged, &run.logged, a) {
         None => Finding::None,
         Some(b) => Finding::LoggedTwice { lost: b },
     }
@@ -74,60 +75,44 @@ fn lost_at(number: u16, stored: &[u16; 4096], s: Option<u16>) -> Finding
     }
 }
 
-// A persisted with this number, after this latest fence: holds or lost.
+// A persisted with this number: holds or lost.
 #[inline(always)] // in both of its callers: the runs with and without epochs
-pub fn of_persisted(
-    number: u16,
-    fence: u16,
-    stored: &[u16; 4096],
-    fenced: &[u16; 4096],
-    dirtied: &[u16; 64],
-    backed: &[u16; 64],
-    a: Range,
-) -> Finding
+pub fn of_persisted<const E: usize>(number: u16, run: &Run<E>, a: Range) -> Finding
     ensures { result ≡
-        durable_at number stored.now
-        (lowest_in (open_byte fence stored.now fenced.now dirtied.now backed.now) (in_tables a)) }
+        durable_at number run.now.stored
+        (lowest_in
+        (open_byte run.now.counts.fence run.now.stored run.now.fenced run.now.dirtied run.now.backed)
+        (in_tables a)) }
 {
-    let s = searches::first_open(fence, stored, fenced, dirtied, backed, a);
-    lost_at(number, stored, s)
+    let s = searches::first_open(run, a);
+    lost_at(number, &run.stored, s)
 }
 
 // An end with this number: none if it is an inner one; else empty, or as a persisted over the bytes stored since the begin.
-pub fn of_end(
-    number: u16,
-    counts: Counts,
-    stored: &[u16; 4096],
-    fenced: &[u16; 4096],
-    dirtied: &[u16; 64],
-    backed: &[u16; 64],
-) -> Finding
-    ensures { result ≡ ended_at number counts stored.now fenced.now dirtied.now backed.now }
+pub fn of_end<const E: usize>(number: u16, run: &Run<E>) -> Finding
+    ensures { result ≡ ended_at number run.now.counts run.now.stored run.now.fenced run.now.dirtied run.now.backed }
 {
-    if counts.depth != 1 {
+    if run.counts.depth != 1 {
         return Finding::None;
     }
-    if counts.store <= counts.begin {
+    if run.counts.store <= run.counts.begin {
         return Finding::Empty;
     }
-    let s = searches::first_since_begin(counts, stored, fenced, dirtied, backed);
-    lost_at(number, stored, s)
+    let s = searches::first_since_begin(run);
+    lost_at(number, &run.stored, s)
 }
 
 // An ordered: holds or out of order.
-pub fn of_ordered(stored: &[u16; 4096], fenced: &[u16; 4096], a: Range, b: Range) -> Finding
-    ensures { result ≡
-        finding_by
-        (of_run (run_of (no_counts 0) stored.now [] fenced.now [] [] [] [] []))
-        (Event.Ordered (in_tables a) (in_tables b)) }
+pub fn of_ordered<const E: usize>(run: &Run<E>, a: Range, b: Range) -> Finding
+    ensures { result ≡ finding_by (of_run run.now) (Event.Ordered (in_tables a) (in_tables b)) }
 {
-    match pairs::first_pair(stored, fenced, a, b) {
+    match pairs::first_pair(&run.stored, &run.fenced, a, b) {
         None => Finding::Holds,
         Some(Pair { kept, lost }) => {
             let k = kept as usize;
             let l = lost as usize;
-            let moment = stored[k];
-            let store = stored[l];
+            let moment = run.stored[k];
+            let store = run.stored[l];
             Finding::OutOfOrder {
                 lost,
                 kept,

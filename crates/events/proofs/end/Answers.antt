@@ -5,7 +5,7 @@ use Rattle.events.specs.Next.{counts_after, tables_after}
 use Rattle.events.proofs.end.Goals as goal
 
 pub returns-clause-value : goal.returns-clause-value
-returns-clause-value g c = rw (end_found c.args.run.now, ← c.run.view_is, c.of_end-finding.ensures, add-one)
+returns-clause-value g c = rw (end_found c.args.run.now, c.of_end-finding.ensures, ← c.run.view_is, add-one)
 
 pub returns-clause-run_after : goal.returns-clause-run_after
 unfolding counts_after tables_after

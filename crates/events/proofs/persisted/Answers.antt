@@ -7,9 +7,14 @@ use Rattle.events.proofs.persisted.Goals as goal
 
 pub returns-clause-value : goal.returns-clause-value
 returns-clause-value g c =
-    let address = in_tables_address c.args.a c.requires.1 in
-    let length = in_tables_length c.args.a c.requires.1 in
-    rw (persisted_found c.args.run.now c.args.a, ← c.run.view_is, c.of_persisted-finding.ensures, add-one, address, length)
+    rw (
+      persisted_found c.args.run.now c.args.a,
+      c.of_persisted-finding.ensures,
+      ← c.run.view_is,
+      add-one,
+      in_tables_address c.args.a c.requires.1,
+      in_tables_length c.args.a c.requires.1,
+    )
 
 pub returns-clause-run_after : goal.returns-clause-run_after
 unfolding counts_after tables_after

@@ -8,4 +8,4 @@ loop-b-init c = sums_none _
 
 pub loop-b-preserved : goal.loop-b-preserved
 loop-b-preserved c =
-    sums_next c.loop-b.invariant c.interval_from-interval.ensures c.epochs_at_risk.ensures (omega arith) c.one_if_closed-count.ensures
+    sums_next c.loop-b.invariant (rw (← c.run.view_is) c.interval_from-interval.ensures) c.epochs_at_risk.ensures (omega arith) c.one_if_closed-count.ensures

@@ -13,23 +13,26 @@ use Rattle.searches.proofs.first_since_begin.Goals as goal
 use Rattle.searches.proofs.first_since_begin.Goals.{then-line_at_end+in_default, else-line_at_end}
 
 pub returns-in-Some : goal.returns-in-Some
-returns-in-Some c =
-    let a = c.args in
-    rw c.lines_of-lines.ensures at
-    (part_here _ 0 _ (c.loop-l.l * 64) c.loop-l.invariant 64 (omega arith)
+returns-in-Some g c =
+    let r = c.run.inside in
+    let before = rw (← c.run.view_is) at c.loop-l.invariant in
+    rw (← c.run.view_is)
+    (rw c.lines_of-lines.ensures at
+    (part_here _ 0 _ (c.loop-l.l * 64) before 64 (omega arith)
     (found_some _ refl
-    (line_searched (line_at_end a.counts.begin a.counts.fence a.dirtied.now a.backed.now) (passing (OpenSince a.counts.begin) a.stored.now a.fenced.now)
-    c.loop-l.l (sym c.if-line_at_end.ensures) (omega arith) c.line_start-at.ensures c.in-Some.ensures)))
+    (line_searched (line_at_end r.counts.begin r.counts.fence r.dirtied r.backed) (passing (OpenSince r.counts.begin) r.stored r.fenced)
+    c.loop-l.l (sym c.if-line_at_end.ensures) (omega arith) c.line_start-at.ensures c.in-Some.ensures))))
 
 pub loop-l-preserved : goal.loop-l-preserved
-loop-l-preserved c =
-    let a = c.args in
+loop-l-preserved g c =
+    let r = c.run.inside in
+    let before = rw (← c.run.view_is) at c.loop-l.invariant in
     let l = c.loop-l.l in
-    let line = line_at_end a.counts.begin a.counts.fence a.dirtied.now a.backed.now in
-    let bytes = passing (OpenSince a.counts.begin) a.stored.now a.fenced.now in
+    let line = line_at_end r.counts.begin r.counts.fence r.dirtied r.backed in
+    let bytes = passing (OpenSince r.counts.begin) r.stored r.fenced in
     let next : (l + 1) * 64 ≡ l * 64 + 64 = omega arith in
-    rw next
-    (part_later _ 0 _ (l * 64) c.loop-l.invariant 64 (omega arith)
+    rw (next, ← c.run.view_is)
+    (part_later _ 0 _ (l * 64) before 64 (omega arith)
     (elim c.if-line_at_end.branch [
       | then-line_at_end+in_default w ↦
           found_none _ refl (line_searched line bytes l (sym w.if-line_at_end.ensures) (omega arith) w.line_start-at.ensures w.in_default.ensures)
@@ -37,4 +40,6 @@ loop-l-preserved c =
     ]))
 
 pub returns : goal.returns
-returns c = rw c.lines_of-lines.ensures at (found_nothing _ 0 _ (c.loop-l.l * 64) c.loop-l.invariant (omega arith))
+returns g c =
+    let before = rw (← c.run.view_is) at c.loop-l.invariant in
+    rw (← c.run.view_is) (rw c.lines_of-lines.ensures at (found_nothing _ 0 _ (c.loop-l.l * 64) before (omega arith)))
