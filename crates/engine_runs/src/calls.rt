@@ -70,8 +70,8 @@ pub fn call<W: Write>(out: &mut W, run: &mut Run<4096>, bytes: &[u8])
     ensures { run.new ≡ after_call run.old bytes.now }
 {
     let number = codec::u16_at(bytes, 2);
-    // stays: the kind is a byte of the file, read in this one match, and `after_call` speaks of that byte: an enum would need a match more,
-    // which makes it.
+    // stays: the kind is a byte of the file, of which `after_call` speaks, and is read here alone: an enum of calls is no plainer, a type and a
+    // match that makes it, for this one match
     match codec::byte_at(bytes, 0) {
         16 => fresh(out, run, number),
         17 => ask(out, run, number),

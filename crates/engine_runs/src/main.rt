@@ -21,8 +21,7 @@ fn make_calls<R: Read, W: Write>(
     requires { length area.old ≡ length preamble.old }
 {
     let mut run = engine::fresh(1).run;
-    // stays: a struct of a space and its length is no plainer: it needs three methods that only hand both on, since `setting` and `writing`
-    // take them apart, and two fields of a struct with an invariant can't be lent at once.
+    // stays: `room` and `free` beside their spaces, as `setting` takes them (why, stands there)
     let mut room: usize = 0;
     let mut free: usize = 0;
     let mut writer = Writer {

@@ -5,7 +5,7 @@ ghost use Rattle.event.specs.Numbers.{kind_of, fields_with, fields_of, number_of
 use crate::{Event, Fields, Finding, Refusal};
 
 // An event's kind, 1 to 8.
-// stays: the new form is no plainer. Events carry ranges, so they have no number for `as u8`, and a From would be the same match.
+// stays: a number, which a record's bytes begin with, and the only caller lays it down. Events carry ranges, so they have none for `as u8`.
 pub fn kind(e: Event) -> u8
     ensures { result ≡ kind_of e }
 {

@@ -137,7 +137,7 @@ impl Iterator for Shown<'_> {
     ghost remaining = { item_count rows_left };
 
     fn next(&mut self) -> Option<Row> {
-        // stays: the range that is left is the iterator's own state, which `next` moves on, and a `for` would need a copy of it
+        // stays: the place is the iterator's own state, which each turn moves on: a `for` would count beside it, and is no plainer
         while self.before < self.count {
             let row = row_at(self.area, self.before);
             self.before += 1;

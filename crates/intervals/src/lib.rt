@@ -25,7 +25,8 @@ pub fn open_bytes(opened: &mut [u16], a: Range, epoch: u16)
 {
     let at = a.address as usize;
     let n = room(at, a.length as usize, opened.len());
-    // stays: with `fill` of std in its place many fences take 15,965,155 instructions against 15,744,652
+    // stays: slower (the bar stands in docs/PERFORMANCE.md): with `fill` of std in its place many fences take 15,965,155 instructions against
+    // 15,744,652, and as a call of `fill` in `writes` it would be lent a part of a table that may lack it
     for i in 0..n {
         opened[at + i] = epoch;
     }

@@ -29,7 +29,7 @@ fn range_b(e: Event) -> Range
 }
 
 // The fields of a record as 12 bytes, whatever they say.
-// stays: the kind as the number that is laid down (`fields_bytes` in specs/ takes it so)
+// stays: the kind as the number that is laid down: what laws say of `fields_bytes` holds for every number
 fn fields_bytes(kind: u8, a: Range, b: Range, site: u16) -> [u8; 12]
     ensures { result ≡ fields_bytes kind a b site }
 {

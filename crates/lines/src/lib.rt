@@ -45,7 +45,7 @@ pub fn foot(text: &mut Cursor<'_>, findings: u16)
 }
 
 // `refused 9 at 3`
-// stays: the refusal's number, since the function is public and promises a line for every number
+// stays: the refusal's number, since the function is public and its clause promises `refusal_line` for every number
 pub fn refusal(text: &mut Cursor<'_>, number: u8, place: u32)
     ensures { Puts (refusal_line number place) text.old text.new }
 {

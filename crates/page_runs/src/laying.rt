@@ -33,7 +33,7 @@ fn written(area: &[u8], p: Result<u32, PageRefusal>) -> usize
 }
 
 // Whether a call of this kind lays out the findings.
-// stays: the kind is a byte of the file, of which `is_layout` and `area_after_call` speak: an enum would need a match more, which makes it
+// stays: the kind is a byte of the file, of which `area_after_call` speaks: an enum of two calls is no plainer, a type and a match that makes it
 fn is_layout(kind: u8) -> bool
     ensures { result ≡ is_layout kind }
 {

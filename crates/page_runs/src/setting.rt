@@ -16,25 +16,15 @@ fn added(bytes: &[u8], at: usize, more: u16) -> u16
 fn finding(bytes: &[u8], more: u16) -> [u8; 12]
     ensures { result ≡ finding_plus bytes.now more }
 {
-    let lost = added(bytes, 14, more).to_le_bytes();
-    let kept = added(bytes, 16, more).to_le_bytes();
-    let moment = added(bytes, 18, more).to_le_bytes();
-    let store = added(bytes, 20, more).to_le_bytes();
-    let site = added(bytes, 22, more).to_le_bytes();
-    [
-        codec::byte_at(bytes, 12),
-        codec::byte_at(bytes, 13),
-        lost[0],
-        lost[1],
-        kept[0],
-        kept[1],
-        moment[0],
-        moment[1],
-        store[0],
-        store[1],
-        site[0],
-        site[1],
-    ]
+    let mut one = [0u8; 12];
+    one[0] = codec::byte_at(bytes, 12);
+    one[1] = codec::byte_at(bytes, 13);
+    one[2..4].copy_from_slice(&added(bytes, 14, more).to_le_bytes());
+    one[4..6].copy_from_slice(&added(bytes, 16, more).to_le_bytes());
+    one[6..8].copy_from_slice(&added(bytes, 18, more).to_le_bytes());
+    one[8..10].copy_from_slice(&added(bytes, 20, more).to_le_bytes());
+    one[10..].copy_from_slice(&added(bytes, 22, more).to_le_bytes());
+    one
 }
 
 // How many of so many findings there is room for from a place on.
@@ -49,7 +39,8 @@ fn fitting(space: &[u8], at: usize, count: u32) -> usize
 }
 
 // Puts so many findings from a place on.
-// stays: a space and a place in it, here, in `zero` and in `set_byte`, since they are lent one field of `Findings` while the other is read
+// stays: a space and a place in it, here, in `zero` and in `set_byte`: as methods they would close `Findings` with its invariant at each call,
+// and their clauses, which are of the space alone, would be no plainer
 fn put_findings(space: &mut [u8], at: usize, bytes: &[u8], count: usize)
     requires { 12 * count ≤ length space.old - at }
     ensures { space.new ≡ findings_put space.old at bytes.now count }

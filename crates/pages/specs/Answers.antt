@@ -6,6 +6,10 @@ use Rattle.pages.specs.declared.PageRefusal.{PageRefusal}
 abbrev pub Paged : Type 0
 Paged = Result ℕ PageRefusal
 
+-- a refusal, and the position of the finding that it is about, from 1, or 0
+abbrev pub about_finding : Refusal → ℕ → PageRefusal
+about_finding x n = record { refusal = x; position = n }
+
 -- the area is refused
 abbrev pub refused_finding : {T : Type 0} → Refusal → ℕ → Result T PageRefusal
-refused_finding x n = Err (record { refusal = x; position = n })
+refused_finding x n = Err (about_finding x n)

@@ -5,6 +5,7 @@ ghost use Rattle.std.specs.Prelude.{◌≡◌, ◌+◌, ◌*◌, ◌%◌, length
 ghost use Rattle.history.specs.Refused.{first_broken};
 ghost use Rattle.finding_lines.specs.Rows.{rows_from};
 ghost use Rattle.page_layout.specs.Pages.{page_count, findings_in};
+ghost use Rattle.pages.specs.Answers.{about_finding};
 ghost use Rattle.pages.specs.Limits.{bad_length, damage_limits};
 ghost use Rattle.pages.specs.Paged.{unless_damaged, in_room, paged_of, page_area_after};
 
@@ -16,6 +17,18 @@ use finding_lines::Shown;
 pub struct PageRefusal {
     pub refusal: Refusal,
     pub position: u16,
+}
+
+// A refusal that is about no finding.
+impl From<Refusal> for PageRefusal {
+    ghost from_gives = { λ x r. r ≡ about_finding x 0 };
+
+    fn from(refusal: Refusal) -> PageRefusal {
+        PageRefusal {
+            refusal,
+            position: 0,
+        }
+    }
 }
 
 // What is damaged in the finding that has so many before it, if anything is.
@@ -87,10 +100,7 @@ fn in_room(room: usize, length: u32) -> Result<u32, PageRefusal>
     ensures { result ≡ in_room room length }
 {
     if room < (length as usize) {
-        return Err(PageRefusal {
-            refusal: Refusal::PageAreaTooShort,
-            position: 0,
-        });
+        return Err(PageRefusal::from(Refusal::PageAreaTooShort));
     }
     Ok(length)
 }
@@ -100,10 +110,7 @@ fn checked(findings: &[u8], room: usize) -> Result<u32, PageRefusal>
     ensures { result ≡ paged_of findings.now room }
 {
     if is_bad_length(findings) {
-        return Err(PageRefusal {
-            refusal: Refusal::LengthDiffers,
-            position: 0,
-        });
+        return Err(PageRefusal::from(Refusal::LengthDiffers));
     }
     let count = findings_in(findings);
     let length = length_of(count_shown(findings, count));

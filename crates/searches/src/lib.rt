@@ -90,7 +90,8 @@ pub fn skip<P: Places>(places: &P, at: usize, n: usize) -> usize
 {
     let end = at + n;
     let mut b = at;
-    // stays: with a `for` over the groups large ordered takes 78,859,436 instructions against 64,710,054
+    // stays: slower (the bar stands in docs/PERFORMANCE.md): with a `for` over the groups large ordered takes 78,859,436 instructions against
+    // 64,710,054
     while b + 8 <= end {
         if any(places, b, 8) {
             return b;

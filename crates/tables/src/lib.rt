@@ -25,7 +25,8 @@ pub struct Counts {
 // and the first write-backs are what the answer of a byte asked has besides, and a run of which no byte is asked has none of their `E`
 // entries. Where a byte is stored to again, its entries of the earlier store stay: a closing fence and a write-back older than the last
 // store count for nothing, and so does the closing epoch then.
-// stays: 0 and no Option for none, since the tables begin as `[0; 4096]`, the form of document 01 (docs/DECISIONS.md), and specs/ goes by it
+// stays: an array for each table, and 0 in it for none, since per-byte arrays that begin as `[0; 4096]` are the form of document 01
+// (docs/DECISIONS.md), and specs/ goes by it
 #[derive(Clone, Copy)]
 pub struct Run<const E: usize> {
     pub counts: Counts,

@@ -84,8 +84,8 @@ fn call<W: Write>(out: &mut W, area: &mut [u8], preamble: &[u8], w: Writer, byte
     ensures value { result ≡ writer_after_call area.old preamble.now w bytes.now }
     ensures area_after { area.new ≡ area_after_call area.old preamble.now w bytes.now }
 {
-    // stays: the kind is a byte of the file, and `writer_after_call` and `is_answered` speak of that byte: an enum would need a match more,
-    // which makes it.
+    // stays: the kind is a byte of the file, of which `writer_after_call` speaks, and is read here and in `is_answered`: an enum of calls is no
+    // plainer, a type and a match that makes it, for this one match
     match codec::byte_at(bytes, 0) {
         35 => start(out, area, preamble, w, codec::u16_at(bytes, 2)),
         36 => {

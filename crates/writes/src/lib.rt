@@ -16,7 +16,7 @@ fn fill(xs: &mut [u16], at: usize, n: usize, x: u16)
     requires { at + n ≤ length xs.old }
     ensures { xs.new ≡ filled x at n xs.old }
 {
-    // stays: with `fill` of std small stores take 1,532,569 instructions against 1,458,536, many fences 16,248,654 against 15,744,652
+    // stays: slower (the bar stands in docs/PERFORMANCE.md): with `fill` of std small stores take 1,532,569 instructions against 1,458,536, many fences 16,248,654 against 15,744,652
     for i in 0..n {
         xs[at + i] = x;
     }
@@ -108,7 +108,7 @@ pub fn close_lines(
     let fence = counts.fence;
     let end = tables::lines_of(counts) as usize;
     let mut l = 0;
-    // stays: with a `for` over the groups large persisted takes 631,988 instructions against 606,776
+    // stays: slower (the bar stands in docs/PERFORMANCE.md): with a `for` over the groups large persisted takes 631,988 instructions against 606,776
     while l + 8 <= end {
         if searches::any_of_eight(Test::Since(fence), backed, backed, l) {
             close_some(fenced, stored, backed, l, l + 8, fence, number);
