@@ -11,6 +11,7 @@ ghost use Rattle.events.specs.Next.{one_more, counted_with};
 ghost use Rattle.events.specs.Give.{next_of, give_of};
 
 use event::{Event, Finding, Range, Record, Refusal};
+use std::num;
 use tables::{Counts, Run};
 
 // The count of findings other than none, with one more finding.
@@ -20,7 +21,7 @@ fn findings_after(n: u16, f: Finding) -> u16
     if matches!(f, Finding::None) {
         n
     } else {
-        n.wrapping_add(1)
+        num::wrapping_add_u16(n, 1)
     }
 }
 
@@ -76,7 +77,7 @@ fn fence<const E: usize>(run: &mut Run<E>) -> Finding
 {
     let counts = run.counts;
     let next = counted(counts, Finding::None);
-    let epoch = counts.fences.wrapping_add(1);
+    let epoch = num::wrapping_add_u16(counts.fences, 1);
     writes::close_lines(
         &mut run.fenced,
         &run.stored,
