@@ -78,14 +78,8 @@ fn fence<const E: usize>(run: &mut Run<E>) -> Finding
     let counts = run.counts;
     let next = counted(counts, Finding::None);
     let epoch = num::wrapping_add_u16(counts.fences, 1);
-    writes::close_lines(
-        &mut run.fenced,
-        &run.stored,
-        &run.backed,
-        counts,
-        next.events,
-    );
-    intervals::close_epochs(&mut run.closed, &run.fenced, counts, next.events, epoch);
+    writes::close_lines(run, next.events);
+    intervals::close_epochs(run, next.events, epoch);
     run.counts = Counts {
         fences: epoch,
         fence: next.events,

@@ -6,11 +6,11 @@ ghost use Rattle.std.specs.Prelude.{◌≡◌, ◌+◌, ◌-◌, ◌≤◌, min,
 ghost use Rattle.window.specs.Window.{window_bytes, line_of};
 ghost use Rattle.ranges.specs.Ranges.{line_count};
 ghost use Rattle.tables.specs.Table.{changed, filled_bytes, in_tables};
-ghost use Rattle.tables.specs.View.{lines_of};
+ghost use Rattle.tables.specs.View.{lines_of, run_of};
 ghost use Rattle.intervals.specs.Now.{back_now, epoch_now, backed_now, closed_now};
 
 use event::Range;
-use tables::Counts;
+use tables::Run;
 
 // How many of n entries from `at` on a table of this length has.
 fn room(at: usize, n: usize, length: usize) -> usize
@@ -74,17 +74,15 @@ fn epoch_now(number: u16, epoch: u16, fence: u16, old: u16) -> u16
 }
 
 // A fence: the bytes of the window, by the closing fences after it.
-pub fn close_epochs(
-    closed: &mut [u16],
-    fenced: &[u16; 4096],
-    counts: Counts,
-    number: u16,
-    epoch: u16,
-)
-    ensures { closed.new ≡ changed (closed_now number epoch fenced.now) 0 (window_bytes (lines_of counts)) closed.old }
+pub fn close_epochs<const E: usize>(run: &mut Run<E>, number: u16, epoch: u16)
+    ensures { run.new ≡
+        run_of run.old.counts run.old.stored run.old.logged run.old.fenced run.old.opened
+        (changed (closed_now number epoch run.old.fenced) 0 (window_bytes (lines_of run.old.counts)) run.old.closed)
+        run.old.written run.old.dirtied run.old.backed }
 {
-    let lines = tables::lines_of(counts) as usize;
-    for b in 0..closed.len().min(lines * 64) {
-        closed[b] = epoch_now(number, epoch, fenced[b], closed[b]);
+    let lines = tables::lines_of(run.counts) as usize;
+    let closed = &mut run.closed;
+    for b in 0..E.min(lines * 64) {
+        closed[b] = epoch_now(number, epoch, run.fenced[b], closed[b]);
     }
 }

@@ -4,12 +4,12 @@
 ghost use Rattle.std.specs.Prelude.{◌≡◌, ◌+◌, ◌-◌, ◌≤◌, length};
 ghost use Rattle.window.specs.Window.{window_bytes};
 ghost use Rattle.tables.specs.Table.{entry, changed, filled, filled_bytes, filled_lines, in_tables};
-ghost use Rattle.tables.specs.View.{lines_of};
+ghost use Rattle.tables.specs.View.{lines_of, run_of};
 ghost use Rattle.writes.specs.Fenced.{fence_now, fenced_by};
 
 use event::Range;
 use searches::Test;
-use tables::Counts;
+use tables::Run;
 
 // The n entries from `at` on become x.
 fn fill(xs: &mut [u16], at: usize, n: usize, x: u16)
@@ -94,26 +94,24 @@ fn close_some(
 }
 
 // The bytes of the window after the fence. Eight lines of which none was written back since the last fence are passed over.
-pub fn close_lines(
-    fenced: &mut [u16; 4096],
-    stored: &[u16; 4096],
-    backed: &[u16; 64],
-    counts: Counts,
-    number: u16,
-)
-    ensures { fenced.new ≡
-        changed (fenced_by counts.fence number stored.now backed.now) 0 (window_bytes (lines_of counts))
-        fenced.old }
+pub fn close_lines<const E: usize>(run: &mut Run<E>, number: u16)
+    ensures { run.new ≡
+        run_of run.old.counts run.old.stored run.old.logged
+        (changed
+        (fenced_by run.old.counts.fence number run.old.stored run.old.backed) 0 (window_bytes (lines_of run.old.counts))
+        run.old.fenced)
+        run.old.opened run.old.closed run.old.written run.old.dirtied run.old.backed }
 {
-    let fence = counts.fence;
-    let end = tables::lines_of(counts) as usize;
+    let fence = run.counts.fence;
+    let end = tables::lines_of(run.counts) as usize;
+    let fenced = &mut run.fenced;
     let mut l = 0;
     // stays: slower (the bar stands in docs/PERFORMANCE.md): with a `for` over the groups large persisted takes 631,988 instructions against 606,776
     while l + 8 <= end {
-        if searches::any_of_eight(Test::Since(fence), backed, backed, l) {
-            close_some(fenced, stored, backed, l, l + 8, fence, number);
+        if searches::any_of_eight(Test::Since(fence), &run.backed, &run.backed, l) {
+            close_some(fenced, &run.stored, &run.backed, l, l + 8, fence, number);
         }
         l += 8;
     }
-    close_some(fenced, stored, backed, l, end, fence, number);
+    close_some(fenced, &run.stored, &run.backed, l, end, fence, number);
 }

@@ -13,18 +13,20 @@ use Rattle.intervals.proofs.close_epochs.Goals as goal
 
 pub loop-b-init : goal.loop-b-init
 unfolding changed
-loop-b-init c = refl
+loop-b-init g c = refl
 
 pub loop-b-preserved : goal.loop-b-preserved
-loop-b-preserved c =
+loop-b-preserved g c =
     let k = c.loop-b in
     let a = c.args in
-    let made : c.epoch_now.result ≡ closed_now a.number a.epoch a.fenced.now (0 + k.b) (get_or k.closed (0 + k.b) 0) =
-    rw zero-add c.epoch_now.ensures in
+    let made : c.epoch_now.result ≡ closed_now a.number a.epoch a.run.now.fenced (0 + k.b) (get_or k.closed (0 + k.b) 0) =
+    rw (zero-add, ← c.run.view_is) c.epoch_now.ensures in
     rw zero-add at (changed_turn _ 0 _ k.b k.invariant made)
 
 pub returns : goal.returns
-returns c =
+returns g c =
     let lines = c.lines_of-lines.result in
-    let last : c.loop-b.b ≡ min (window_bytes lines) (length c.args.closed.now - 0) = omega arith in
-    rw c.lines_of-lines.ensures at (changed_room _ 0 (window_bytes lines) _ last c.loop-b.invariant)
+    let kept = rw (← c.run.view_is) at c.loop-b.invariant in
+    let last : c.loop-b.b ≡ min (window_bytes lines) (length c.run.inside.closed - 0) = omega (arith, c.run.told3) in
+    let all = rw c.lines_of-lines.ensures at (changed_room _ 0 (window_bytes lines) _ last kept) in
+    rw (← c.run.view_is, all)

@@ -6,4 +6,4 @@ use Rattle.intervals.specs.Now.{closed_now}
 use Rattle.intervals.proofs.close_epochs.Given as goal
 
 abbrev pub invariant-loop-b : goal.invariant-loop-b
-invariant-loop-b l = l.closed ≡ changed (closed_now l.number l.epoch l.fenced) 0 l.b l.initial.closed
+invariant-loop-b g l = l.closed ≡ changed (closed_now l.number l.epoch l.fn.run.fenced) 0 l.b l.initial.closed
