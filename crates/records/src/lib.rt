@@ -43,7 +43,7 @@ impl TryFrom<u8> for Kind {
 }
 
 // The u16 at a place, both of whose bytes are there.
-// stays: with codec::u16_at, which tests the length, in its place small stores take 1,417,151 instructions against 1,393,526;
+// stays: slower (the bar stands in docs/PERFORMANCE.md): with codec::u16_at, which tests the length, in its place small stores take 1,417,151 instructions against 1,393,526;
 // 1,526,774 if it reads what first_chunk gives, and 1,550,026 if the padding of short slices is left to it
 fn u16_in(s: &[u8], at: usize) -> u16
     requires { at + 2 ≤ length s.now }

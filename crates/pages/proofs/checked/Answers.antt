@@ -6,7 +6,7 @@ use Rattle.pages.proofs.checked.Goals as goal
 pub returns-then-is_bad_length : goal.returns-then-is_bad_length
 returns-then-is_bad_length c =
     let k = c.args in
-    refused_whole k.findings.now (λ i. omega (arith, c.type_inv.findings i)) k.room c.is_bad_length.ensures c.if-is_bad_length.true
+    rw c.from.ensures (refused_whole k.findings.now (λ i. omega (arith, c.type_inv.findings i)) k.room c.is_bad_length.ensures c.if-is_bad_length.true)
 
 pub returns : goal.returns
 returns c =
