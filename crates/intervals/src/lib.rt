@@ -1,5 +1,8 @@
 // Writes to the tables that no finding goes by: the epochs at which intervals opened and closed, and the first write-backs. Who asks no byte
 // lends shorter tables, or empty ones: an entry that a table lacks is not written.
+//
+// stays: a store and a write-back are lent the tables that they change and read by themselves, as in `writes`, and where they write and how many
+// entries are two numbers, as in `changed`.
 #![tactic(auto)]
 
 ghost use Rattle.std.specs.Prelude.{◌≡◌, ◌+◌, ◌-◌, ◌≤◌, min, length};

@@ -63,6 +63,8 @@ impl<'a> Places for Losable<'a> {
     }
 }
 
+// stays: two tables, and where and how many for the bytes of both ranges: `broken_pair` and `lowest_pair` speak of these, and so does the
+// clause, which over a run would say no more.
 // The lowest of the m bytes from `start` on that a crash may keep while it loses one of the n from `at` on, and the lowest that it
 // loses with it.
 fn first_broken(

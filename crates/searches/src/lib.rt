@@ -1,5 +1,8 @@
 // Searches over tables that the caller lends: the lowest byte or line that passes a test. A range stands for the part of it that the
 // tables have.
+//
+// stays: where a search starts and how many places it asks are two numbers and no `Range<usize>`, since the definitions (`lowest`, `skipped`)
+// and so the clauses speak of these two, and would have to make the second of the range's end.
 #![tactic(auto)]
 
 ghost use Rattle.std.specs.Prelude.{◌≡◌, ℕ, Bool, ◌&&◌, ◌+◌, ◌/◌, ◌≤◌, ◌<◌, min, leb, ltb, length};

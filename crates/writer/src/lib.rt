@@ -1,4 +1,6 @@
 // The writer of a trace file, over an area that the caller lends and does not write to in between.
+//
+// stays: area and writer are lent side by side, since a call from C brings them apart, each time anew (include/pmjudge.h).
 #![tactic(auto)]
 
 ghost use Rattle.std.specs.Prelude.{◌≡◌, ◌<◌, Ok};

@@ -1,4 +1,7 @@
 // Writes to tables that the caller lends. A range stands for the part of it that the tables have.
+//
+// stays: a store or a log is lent the tables that it changes by themselves: over a run its clause would have to name every part that stays, as
+// that of `close_lines` does, where a fence reads three parts. Where they are filled and how many entries are two numbers, as in `filled`.
 #![tactic(auto)]
 
 ghost use Rattle.std.specs.Prelude.{◌≡◌, ◌+◌, ◌-◌, ◌≤◌, length};
