@@ -22,6 +22,7 @@ pub fn kind(e: Event) -> u8
 }
 
 // The fields of a finding that has lost alone.
+// stays: the kind as a number, which is a field of the result
 fn only_lost(kind: u8, lost: u16) -> Fields
     ensures { result ≡ fields_with kind lost 0 0 0 }
 {

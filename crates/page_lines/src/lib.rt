@@ -14,6 +14,7 @@ use finding_lines::Row;
 use text::Cursor;
 
 // The name of a finding's kind behind two blanks, in a field of 16 columns.
+// stays: the kind as a number, as `finding_lines::name` takes it
 fn put_name(text: &mut Cursor<'_>, kind: u8)
     ensures { Puts (padded 16 (ascii "  " ++ name_of kind)) text.old text.new }
 {

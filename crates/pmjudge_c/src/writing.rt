@@ -11,6 +11,7 @@ use file::Writer;
 use replies::Numbers;
 
 // The numbers of an answer that has no value, or a length.
+// stays: beside `first_values`, since a writer's answer in C has no number of a record (include/pmjudge.h)
 fn length_only(n: Numbers) -> [u32; 2]
     ensures { result ≡ with_length n }
 {

@@ -126,6 +126,7 @@ pub fn padded(s: &[u8]) -> [u8; 12]
 }
 
 // The record of these numbers, or the refusal 6 or 7.
+// stays: the kind as a number: what comes in is a byte of a record or a number from C, and the clause promises an answer for each
 pub fn read_fields(kind: u8, zero: u8, a: Range, b: Range, site: u16) -> Result<Record, Refusal>
     ensures { result ≡ parsed_fields kind zero a b site }
 {

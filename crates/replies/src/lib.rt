@@ -213,6 +213,7 @@ impl Values for SitedInterval {
 }
 
 // A file closed: its length, in 32 bits.
+// stays: beside `of`, since a length of 64 bits becomes one of 32 first, and its clause says so (`in_bits32`)
 pub fn of_closed(c: Result<usize, Refusal>) -> Numbers
     ensures { result ≡ numbers_of (closed_reply (in_bits32 c)) }
 {
