@@ -191,7 +191,7 @@ void pmjudge_pages(const uint8_t *findings, size_t findings_length, uint8_t *are
  * is refused by the first number that applies: 1 to 5; then record by record 6, 7, 9, 18, 10 to 12;
  * then 13; then 17.
  *
- * A call takes about 50 KB of the caller's stack: 49,408 bytes for tables, and little more.
+ * A call takes about 42 KB of the caller's stack: 41,216 bytes for tables, and little more.
  */
 void pmjudge_exposure(const uint8_t *trace, size_t trace_length, uint32_t answer[5]);
 

@@ -3,12 +3,26 @@ use mathlib.Core.Path.{◌≡◌, refl, sym, ap, ap₂, subst, ◌∙◌}
 use mathlib.Core.Bool.{Bool, true, false, cond}
 use mathlib.Core.List.{List, ◌++◌, append_assoc}
 use Prim.Native.Nat.{ℕ, ◌+◌, ◌-◌, ◌≤◌, ◌<◌}
+use native.Mathlib.Numerals.{add-one}
 use native.Mathlib.Omega.{arith}
 use lib.Dec.{leb}
-use lib.ListN.{length, get_or, take, drop, length-append}
-use lib.Seq.{length-paste, take-length, drop-drop, length-take-le, take_at, drop_at, take-take, get_or-take, get_or-drop}
-use borrow.Author.Tests.{leb-true, le-leb}
+use lib.ListN.{length, get_or, set, take, drop, length-append}
+use lib.Seq.{paste, paste-suc, length-paste, take-length, drop-drop, length-take-le, take_at, drop_at, take-take, get_or-take, get_or-drop}
+use borrow.Author.Tests.{leb-true, le-leb, lt-leb}
 use Rattle.codec.specs.Placed.{laid, placed}
+
+-- one byte more
+pub put_more : (d : List ℕ) (at : ℕ) (bytes : List ℕ) (i : ℕ) {area : List ℕ} → area ≡ paste d at bytes i → at + i < length d → i < length bytes →
+    set area (at + i) (get_or bytes i 0) ≡ paste d at bytes (i + 1)
+put_more d at bytes i e inside more = rw (e, add-one) (paste-suc d at bytes i 0 inside more)
+
+-- bytes that do not fit
+pub not_placed : (d : List ℕ) (at : ℕ) (bytes : List ℕ) → length d < at + length bytes → d ≡ placed at bytes d
+not_placed d at bytes past = rw (lt-leb (at + length bytes) (length d) past)
+
+-- all of those that do
+pub put_all : (d : List ℕ) (at : ℕ) (bytes : List ℕ) → at + length bytes ≤ length d → paste d at bytes (length bytes) ≡ placed at bytes d
+put_all d at bytes inside = rw (le-leb (at + length bytes) (length d) inside, take-length bytes)
 
 -- bytes that are laid where they fit
 module _ (d bytes : List ℕ) (at : ℕ) (inside : at + length bytes ≤ length d) where

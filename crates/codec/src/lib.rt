@@ -74,5 +74,8 @@ pub fn put(slice: &mut [u8], at: usize, bytes: &[u8])
     if slice.len() < bytes.len() || slice.len() - bytes.len() < at {
         return;
     }
-    slice[at..at + bytes.len()].copy_from_slice(bytes);
+    // stays: a loop, since `copy_from_slice` of a length that is not known here calls memmove, which the archive for C would have to find outside.
+    for i in 0..bytes.len() {
+        slice[at + i] = bytes[i];
+    }
 }

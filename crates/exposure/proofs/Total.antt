@@ -84,6 +84,16 @@ sums_next {interval} {n} s {i} is {risk} {one} r small o =
       within = omega (arith, s.within, one_at_most i, o);
     }
 
+-- a byte without an interval adds nothing
+pub sums_same : {interval : ℕ → Interval} {n epochs bytes : ℕ} → SumsAt interval n epochs bytes → interval n ≡ None → SumsAt interval (n + 1) epochs bytes
+sums_same {interval} {n} s none =
+    record {
+      sum = rw (total_next (λ b. epochs_at_risk (interval b)) n, none) (omega (arith, s.sum));
+      counted = rw (total_next (λ b. one_if_closed (interval b)) n, none) (omega (arith, s.counted));
+      few = s.few;
+      within = omega (arith, s.within);
+    }
+
 -- over all of them
 pub sums_done : {interval : ℕ → Interval} {n all epochs bytes : ℕ} → n ≡ all → SumsAt interval n epochs bytes →
     (record { epochs = epochs; bytes = bytes } ≡ sums_of interval all) × (epochs ≤ most_epochs * bytes)

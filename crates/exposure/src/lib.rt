@@ -2,12 +2,12 @@
 #![tactic(auto)]
 
 ghost use Rattle.std.specs.Prelude.{◌≡◌, ◌-◌, ◌*◌, ◌≤◌};
-ghost use Rattle.tables.specs.View.{interval_in};
+ghost use Rattle.tables.specs.View.{lines_of, interval_in};
 ghost use Rattle.tables.specs.Table.{table_bytes};
-ghost use Rattle.exposure.specs.Exposure.{most_epochs, epochs_at_risk, is_closed, one_if_closed, sums_of, mean_of, exposure_of};
+ghost use Rattle.exposure.specs.Exposure.{most_epochs, epochs_at_risk, is_closed, one_if_closed, sums_of, mean_of, exposure_in, exposure_of};
 
 use event::{Interval, Refusal};
-use tables::Run;
+use tables::{Counts, Run};
 
 // A mean: quotient × divisor + remainder epochs, over `divisor` bytes.
 #[derive(Clone, Copy)]
@@ -49,23 +49,27 @@ fn one_if_closed(i: Interval) -> u16
     u16::from(is_closed(i))
 }
 
-// The sums over the first bytes of a run's tables, so many of them.
-fn sum_bytes(bytes: u16, run: &Run<4096>) -> Sums
+// The sums over the first bytes of the tables, so many of them.
+fn sum_bytes(
+    bytes: u16,
+    stored: &[u16; 4096],
+    fenced: &[u16; 4096],
+    opened: &[u16; 4096],
+    closed: &[u16; 4096],
+) -> Sums
     requires { bytes ≤ table_bytes }
-    ensures value { result ≡ sums_of (interval_in run.now.stored run.now.fenced run.now.opened run.now.closed) bytes }
+    ensures value { result ≡ sums_of (interval_in stored.now fenced.now opened.now closed.now) bytes }
     ensures epochs_bound { result.epochs ≤ most_epochs * result.bytes }
 {
     let mut epochs: u32 = 0;
     let mut count: u16 = 0;
     for b in 0..bytes as usize {
-        let interval = tables::interval_from(
-            run.stored[b],
-            run.fenced[b],
-            run.opened[b],
-            run.closed[b],
-        );
-        epochs += epochs_at_risk(interval) as u32;
-        count += one_if_closed(interval);
+        // a byte that was never stored to adds nothing
+        if stored[b] != 0 {
+            let interval = tables::interval_from(stored[b], fenced[b], opened[b], closed[b]);
+            epochs += epochs_at_risk(interval) as u32;
+            count += one_if_closed(interval);
+        }
     }
     Sums {
         epochs,
@@ -89,11 +93,30 @@ fn mean_of(epochs: u32, bytes: u16) -> Result<Mean, Refusal>
     })
 }
 
+// The mean exposure of a run whose numbers and tables the caller lends.
+pub fn exposure_of(
+    counts: Counts,
+    stored: &[u16; 4096],
+    fenced: &[u16; 4096],
+    opened: &[u16; 4096],
+    closed: &[u16; 4096],
+) -> Result<Mean, Refusal>
+    ensures { result ≡ exposure_in (lines_of counts) (interval_in stored.now fenced.now opened.now closed.now) }
+{
+    let bytes = 64 * tables::lines_of(counts);
+    let s = sum_bytes(bytes, stored, fenced, opened, closed);
+    mean_of(s.epochs, s.bytes)
+}
+
 // The mean exposure of a run. The run may go on.
 pub fn exposure(run: &Run<4096>) -> Result<Mean, Refusal>
     ensures { result ≡ exposure_of run.now }
 {
-    let bytes = 64 * tables::lines_of(run.counts);
-    let s = sum_bytes(bytes, run);
-    mean_of(s.epochs, s.bytes)
+    exposure_of(
+        run.counts,
+        &run.stored,
+        &run.fenced,
+        &run.opened,
+        &run.closed,
+    )
 }

@@ -18,7 +18,7 @@ hidden_first row rest e = rw (← e)
 
 -- from one finding on: it, if it is shown, and then those after it
 module _ (area : List ℕ) (i count : ℕ) where
-  rows_next : {row : Row} → row ≡ row_at i area → i < count → rows_from i (count - i) area ≡ if_shown row (rows_from (i + 1) (count - (i + 1)) area)
+  pub rows_next : {row : Row} → row ≡ row_at i area → i < count → rows_from i (count - i) area ≡ if_shown row (rows_from (i + 1) (count - (i + 1)) area)
   unfolding rows_from
   rows_next read k =
       let left : count - i ≡ suc (count - (i + 1)) = omega arith in

@@ -139,10 +139,11 @@ impl Iterator for Shown<'_> {
     fn next(&mut self) -> Option<Row> {
         // stays: the place is the iterator's own state, which each turn moves on: a `for` would count beside it, and is no plainer
         while self.before < self.count {
-            let row = row_at(self.area, self.before);
+            let before = self.before;
             self.before += 1;
-            if is_printed(row.fields.kind) {
-                return Some(row);
+            // the kind alone first: in most areas few findings are shown, and a row is made of those only
+            if is_printed(codec::byte_at(self.area, 12 * (before as usize))) {
+                return Some(row_at(self.area, before));
             }
         }
         None

@@ -1,7 +1,9 @@
 -- The findings that the code makes from the tables are those that a judge makes of the run.
 use mathlib.Core.Path.{◌≡◌, refl, fun_ext}
 use mathlib.Core.Bool.{Bool, true, false, cond, not, ◌&&◌, ◌||◌}
+use mathlib.Core.List.{[]}
 use mathlib.Core.Logic.{◌≢◌}
+use mathlib.Core.Option.{Option, none, some}
 use Prim.Native.Nat.{ℕ, zero, suc}
 use native.Mathlib.Omega.{arith}
 use lib.Dec.{eqb, ltb, leb}
@@ -11,10 +13,10 @@ use Rattle.event.specs.declared.Event.TheVariants.{Store, WriteBack, End, Persis
 use Rattle.event.specs.declared.Finding.TheVariants.{None, Unlogged}
 use Rattle.window.specs.Window.{line_of, word_of}
 use Rattle.ranges.specs.Ranges.{line_count}
-use Rattle.history.specs.Found.{lowest, lowest_in, lowest_pair, found_or, unlogged, clean, written_twice, warned_line, at_risk, breaks, in_order, finding_by}
+use Rattle.history.specs.Found.{Pair, lowest, lowest_in, lowest_pair, found_or, unlogged, clean, written_twice, warned_line, at_risk, breaks, in_order, finding_by}
 use Rattle.tables.specs.Run.{Run}
 use Rattle.tables.specs.Table.{entry}
-use Rattle.tables.specs.View.{since_store, open_line, of_run}
+use Rattle.tables.specs.View.{run_of, no_counts, since_store, open_line, of_run}
 use Rattle.tables.proofs.SinceStore.{open_at}
 use Rattle.searches.specs.declared.Test.TheVariants.{NotSince, Wasted}
 use Rattle.searches.specs.Tests.{passing, open_byte, lost_at_end}
@@ -96,3 +98,13 @@ module _ (run : Run) where
       broken_test (entry run.stored kept) (entry run.stored lost) (entry run.fenced lost)
       (eqb (line_of kept) (line_of lost)) (eqb (word_of kept) (word_of lost)))) in
       rw same
+
+  -- and asks for no other tables
+  pub ordered_tables : (a b : Range) →
+      finding_by (of_run run) (Ordered a b) ≡ finding_by (of_run (run_of (no_counts 0) run.stored [] run.fenced [] [] [] [] [])) (Ordered a b)
+  unfolding finding_by
+  ordered_tables a b = go (lowest_pair (breaks (of_run run)) a b.address b.length)
+    where
+      go : (found : Option Pair) → in_order (of_run run) found ≡ in_order (of_run (run_of (no_counts 0) run.stored [] run.fenced [] [] [] [] [])) found
+      go none = refl
+      go (some p) = refl

@@ -12,10 +12,13 @@ ghost use Rattle.findings.specs.Findings.{durable_at, ended_at};
 use event::{Event, Finding, Range};
 use pairs::Pair;
 use searches::Test;
-use tables::Run;
+use tables::RunOf;
 
 // A store: unlogged, where a transaction is open.
-pub fn of_store<const E: usize>(run: &Run<E>, a: Range) -> Finding
+pub fn of_store<const O: usize, const C: usize, const W: usize>(
+    run: &RunOf<O, C, W>,
+    a: Range,
+) -> Finding
     ensures { result ≡ finding_by (of_run run.now) (Event.Store (in_tables a)) }
 {
     if run.counts.depth == 0 {
@@ -29,7 +32,10 @@ pub fn of_store<const E: usize>(run: &Run<E>, a: Range) -> Finding
 }
 
 // A write-back: clean or written twice.
-pub fn of_back<const E: usize>(run: &Run<E>, a: Range) -> Finding
+pub fn of_back<const O: usize, const C: usize, const W: usize>(
+    run: &RunOf<O, C, W>,
+    a: Range,
+) -> Finding
     ensures { result ≡ finding_by (of_run run.now) (Event.WriteBack (in_tables a)) }
 {
     match searches::first_line(Test::Wasted, &run.dirtied, &run.backed, a) {
@@ -47,7 +53,10 @@ pub fn of_back<const E: usize>(run: &Run<E>, a: Range) -> Finding
 }
 
 // A log: logged twice.
-pub fn of_log<const E: usize>(run: &Run<E>, a: Range) -> Finding
+pub fn of_log<const O: usize, const C: usize, const W: usize>(
+    run: &RunOf<O, C, W>,
+    a: Range,
+) -> Finding
     ensures { result ≡ finding_by (of_run run.now) (Event.Log (in_tables a)) }
 {
     let twice = Test::Since(run.counts.begin);
@@ -77,7 +86,11 @@ fn lost_at(number: u16, stored: &[u16; 4096], s: Option<u16>) -> Finding
 
 // A persisted with this number: holds or lost.
 #[inline(always)] // in both of its callers: the runs with and without epochs
-pub fn of_persisted<const E: usize>(number: u16, run: &Run<E>, a: Range) -> Finding
+pub fn of_persisted<const O: usize, const C: usize, const W: usize>(
+    number: u16,
+    run: &RunOf<O, C, W>,
+    a: Range,
+) -> Finding
     ensures { result ≡
         durable_at number run.now.stored
         (lowest_in
@@ -89,7 +102,10 @@ pub fn of_persisted<const E: usize>(number: u16, run: &Run<E>, a: Range) -> Find
 }
 
 // An end with this number: none if it is an inner one; else empty, or as a persisted over the bytes stored since the begin.
-pub fn of_end<const E: usize>(number: u16, run: &Run<E>) -> Finding
+pub fn of_end<const O: usize, const C: usize, const W: usize>(
+    number: u16,
+    run: &RunOf<O, C, W>,
+) -> Finding
     ensures { result ≡ ended_at number run.now.counts run.now.stored run.now.fenced run.now.dirtied run.now.backed }
 {
     if run.counts.depth != 1 {
@@ -103,7 +119,11 @@ pub fn of_end<const E: usize>(number: u16, run: &Run<E>) -> Finding
 }
 
 // An ordered: holds or out of order.
-pub fn of_ordered<const E: usize>(run: &Run<E>, a: Range, b: Range) -> Finding
+pub fn of_ordered<const O: usize, const C: usize, const W: usize>(
+    run: &RunOf<O, C, W>,
+    a: Range,
+    b: Range,
+) -> Finding
     ensures { result ≡ finding_by (of_run run.now) (Event.Ordered (in_tables a) (in_tables b)) }
 {
     match pairs::first_pair(&run.stored, &run.fenced, a, b) {

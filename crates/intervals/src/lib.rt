@@ -13,7 +13,7 @@ ghost use Rattle.tables.specs.View.{lines_of, run_of};
 ghost use Rattle.intervals.specs.Now.{back_now, epoch_now, backed_now, closed_now};
 
 use event::Range;
-use tables::Run;
+use tables::RunOf;
 
 // How many of n entries from `at` on a table of this length has.
 fn room(at: usize, n: usize, length: usize) -> usize
@@ -77,7 +77,12 @@ fn epoch_now(number: u16, epoch: u16, fence: u16, old: u16) -> u16
 }
 
 // A fence: the bytes of the window, by the closing fences after it.
-pub fn close_epochs<const E: usize>(run: &mut Run<E>, number: u16, epoch: u16)
+#[inline(never)] // one copy of the loop: in the programs, where it was compiled into their `main`, it took a quarter more instructions
+pub fn close_epochs<const O: usize, const C: usize, const W: usize>(
+    run: &mut RunOf<O, C, W>,
+    number: u16,
+    epoch: u16,
+)
     ensures { run.new ≡
         run_of run.old.counts run.old.stored run.old.logged run.old.fenced run.old.opened
         (changed (closed_now number epoch run.old.fenced) 0 (window_bytes (lines_of run.old.counts)) run.old.closed)
@@ -85,7 +90,7 @@ pub fn close_epochs<const E: usize>(run: &mut Run<E>, number: u16, epoch: u16)
 {
     let lines = tables::lines_of(run.counts) as usize;
     let closed = &mut run.closed;
-    for b in 0..E.min(lines * 64) {
+    for b in 0..C.min(lines * 64) {
         closed[b] = epoch_now(number, epoch, run.fenced[b], closed[b]);
     }
 }

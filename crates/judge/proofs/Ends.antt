@@ -2,8 +2,13 @@
 use Rattle.std.specs.Prelude.{Ok, Err}
 use mathlib.Core.Path.{◌≡◌, ap, ◌∙◌}
 use mathlib.Core.List.{List, ◌++◌}
-use Prim.Native.Nat.{ℕ}
-use lib.ListN.{take, drop}
+use Prim.Native.Nat.{ℕ, ◌≤◌}
+use native.Mathlib.Nat.{zero-add}
+use native.Mathlib.Omega.{arith}
+use lib.ListN.{length, take, drop}
+use lib.Seq.{length-take-le}
+use Rattle.codec.specs.Placed.{placed}
+use Rattle.codec.proofs.Placed.{placed_laid}
 use Rattle.event.specs.declared.TraceRefusal.{TraceRefusal}
 use Rattle.event.specs.Answers.{totals}
 use Rattle.record_step.specs.Step.{Stage}
@@ -30,3 +35,10 @@ module _ (size : ℕ) (area : List ℕ) (e : Passed) {given : Passed} (same : gi
 -- the buffer
 pub ends_buffer : (e : Passed) {given : Passed} → given ≡ bare_passed e → {end : Stage} → end ≡ given.stage → end.buffer ≡ e.stage.buffer
 ends_buffer e same held = ap (λ (s : Stage). s.buffer) (held ∙ ap (λ (e : Passed). e.stage) same)
+
+-- so many of its bytes, put in front of the area
+pub ends_put : (size : ℕ) (buffer area : List ℕ) → size ≤ length buffer → size ≤ length area →
+    placed 0 (take size buffer) area ≡ take size buffer ++ drop size area
+ends_put size buffer area held inside =
+    let front : length (take size buffer) ≡ size = length-take-le size buffer held in
+    placed_laid area (take size buffer) 0 (omega arith) ∙ (rw (zero-add, front))

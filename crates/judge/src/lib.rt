@@ -29,7 +29,9 @@ fn judge_by(
     let mut run = Run::<0>::fresh(lines);
     pass::give_records(records, count, &mut run, buffer)?;
     let size = 12 * (count as usize);
-    area[..size].copy_from_slice(&buffer[..size]);
+    // stays: put byte by byte, since `copy_from_slice` of a length that is not known here calls memmove, which the archive for C would have
+    // to find outside.
+    codec::put(area, 0, &buffer[..size]);
     Ok(Totals {
         events: run.counts.events,
         fences: run.counts.fences,

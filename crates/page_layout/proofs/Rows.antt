@@ -1,5 +1,6 @@
 -- The lines of findings, and the pages, one after another.
 use mathlib.Core.Path.{◌≡◌, sym, ap, ◌∙◌}
+use mathlib.Core.Bool.{Bool, true, false, cond}
 use mathlib.Core.List.{List, [], ◌∷◌, ◌++◌, append_assoc, append-nil}
 use Prim.Native.Nat.{ℕ, zero, suc, ◌+◌, ◌-◌, ◌≤◌, ◌<◌}
 use native.Mathlib.Numerals.{add-one}
@@ -10,8 +11,12 @@ use Rattle.text.specs.Cursor.{Puts}
 use Rattle.text.specs.declared.Cursor.{Cursor}
 use Rattle.text.proofs.Puts.{◌then◌}
 use Rattle.finding_lines.specs.declared.Row.{Row}
+use Rattle.finding_lines.specs.Lines.{is_printed}
+use Rattle.finding_lines.specs.Rows.{row_at, if_shown, rows_from}
+use Rattle.finding_lines.proofs.Rows.{rows_next}
 use Rattle.page_lines.specs.Lines.{row_line}
 use Rattle.page_layout.specs.Pages.{per_page, row_lines, page, pages_from}
+use Rattle.page_layout.specs.Rows.{shown}
 
 -- one line more, of the first finding behind so many, and those behind it
 line_behind : (n : ℕ) (rows : List Row) {row : Row} {rest : List Row} → drop n rows ≡ row ∷ rest →
@@ -54,3 +59,28 @@ module _ (i pages : ℕ) (rows : List Row) {o p : Cursor} where
   pub pages_done : pages ≤ i → Puts [] o p → Puts (pages_from (pages - i) (i + 1) pages rows) o p
   unfolding pages_from
   pages_done k e = let none : pages - i ≡ 0 = omega arith in rw none e
+
+-- a finding is counted
+shown_length : (row : Row) (rest : List Row) → length (if_shown row rest) ≡ shown row.fields.kind + length rest
+shown_length row rest = go (is_printed row.fields.kind)
+  where
+    go : (b : Bool) → length (cond b (row ∷ rest) rest) ≡ cond b 1 0 + length rest
+    go true = omega arith
+    go false = omega arith
+
+-- at most one is counted
+shown_once : (kind : ℕ) → shown kind ≤ 1
+shown_once kind = go (is_printed kind)
+  where
+    go : (b : Bool) → cond b 1 0 ≤ 1
+    go true = omega arith
+    go false = omega arith
+
+-- one turn of a loop over the findings: the finding read, and 1 or 0 for it
+module _ (findings : List ℕ) (i count : ℕ) {row : Row} {one : ℕ} (inside : i < count) (read : row ≡ row_at i findings) (counted : one ≡ shown row.fields.kind) where
+  pub count_next : (total : ℕ) → total + one + length (rows_from (i + 1) (count - (i + 1)) findings) ≡ total + length (rows_from i (count - i) findings)
+  count_next total =
+      rw (rows_next findings i count read inside, counted) (omega (arith, shown_length row (rows_from (i + 1) (count - (i + 1)) findings)))
+
+  pub at_most_one : one ≤ 1
+  at_most_one = rw counted (shown_once row.fields.kind)

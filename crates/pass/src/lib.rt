@@ -1,13 +1,15 @@
-// The records of a trace, given one after another to a run that the caller lends; their findings go into a buffer.
+// The records of a trace, given one after another to a run that the caller lends; their findings go into a buffer, or nobody asks for them.
 #![tactic(auto)]
 
 ghost use Rattle.std.specs.Prelude.{◌≡◌, cond, eqb, Ok};
 ghost use Rattle.record_step.specs.Step.{stage};
+ghost use Rattle.trace.specs.Records.{records_of};
 ghost use Rattle.pass.specs.Pass.{records_given};
+ghost use Rattle.pass.specs.Follow.{record_followed, records_followed};
 ghost use Rattle.event.specs.Answers.{refused_at};
 
-use event::{Refusal, TraceRefusal};
-use tables::Run;
+use event::{Record, Refusal, TraceRefusal};
+use tables::RunOf;
 
 // The closing: 13 where a transaction is open.
 fn close(depth: u16) -> Result<(), TraceRefusal>
@@ -21,10 +23,10 @@ fn close(depth: u16) -> Result<(), TraceRefusal>
 
 // The records, given one after another to the run, up to the first that is refused, and then the closing. A finding for which the buffer
 // has no room is not written.
-pub fn give_records<const E: usize>(
+pub fn give_records<const O: usize, const C: usize, const W: usize>(
     records: &[u8],
     count: u32,
-    run: &mut Run<E>,
+    run: &mut RunOf<O, C, W>,
     buffer: &mut [u8],
 ) -> Result<(), TraceRefusal>
     ensures check_value { result ≡ (records_given count records.now (stage run.old buffer.old)).check }
@@ -33,6 +35,37 @@ pub fn give_records<const E: usize>(
     for i in 0..count {
         let p = trace::record_at(records, i);
         if let Err(refusal) = record_step::judge_record(run, p, 12 * (i as usize), buffer) {
+            return Err(TraceRefusal { refusal, at: i + 1 });
+        }
+    }
+    close(run.counts.depth)
+}
+
+// One record given where nobody asks for findings; nothing of the run changes where it is refused.
+fn follow_record<const O: usize, const C: usize, const W: usize>(
+    run: &mut RunOf<O, C, W>,
+    p: Result<Record, Refusal>,
+) -> Result<(), Refusal>
+    ensures answer { result ≡ (record_followed p run.old).check }
+    ensures run_after { run.new ≡ (record_followed p run.old).run }
+{
+    events::follow(run, p?)
+}
+
+// The records given as by `give_records`, where nobody asks for findings: the undo log and the count of findings stay as they were. A loop
+// beside that of `give_records`, since the clauses of one loop over a step that is handed in would go by what the step ensures, and each
+// caller would have to name it.
+pub fn follow_records<const O: usize, const C: usize, const W: usize>(
+    records: &[u8],
+    count: u32,
+    run: &mut RunOf<O, C, W>,
+) -> Result<(), TraceRefusal>
+    ensures check_value { result ≡ (records_followed (records_of count records.now) 1 run.old).check }
+    ensures run_after { run.new ≡ (records_followed (records_of count records.now) 1 run.old).run }
+{
+    for i in 0..count {
+        let p = trace::record_at(records, i);
+        if let Err(refusal) = follow_record(run, p) {
             return Err(TraceRefusal { refusal, at: i + 1 });
         }
     }

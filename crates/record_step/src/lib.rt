@@ -5,11 +5,11 @@ ghost use Rattle.std.specs.Prelude.{◌≡◌};
 ghost use Rattle.record_step.specs.Step.{stage, record_answer, record_given};
 
 use event::{Finding, Record, Refusal};
-use tables::Run;
+use tables::RunOf;
 
 // One record given to a run, and its finding put with its site at a place of the buffer; nothing of either changes where it is refused.
-pub fn judge_record<const E: usize>(
-    run: &mut Run<E>,
+pub fn judge_record<const O: usize, const C: usize, const W: usize>(
+    run: &mut RunOf<O, C, W>,
     p: Result<Record, Refusal>,
     at: usize,
     buffer: &mut [u8],

@@ -92,6 +92,10 @@ module _ (p : ℕ → Bool) (at n x : ℕ) (same : left p (at + n) x ≡ left p 
   pub part_later : (m : ℕ) → x + m ≤ at + n → lowest p x m ≡ none → left p (at + n) (x + m) ≡ left p (at + n) at
   part_later m h e = left_part p (at + n) x m h e ∙ same
 
+  -- it ends, and what is left is searched
+  pub part_last : {s : Answer ℕ} → s ≡ searched (left p (at + n) x) → s ≡ searched (lowest p at n)
+  part_last e = e ∙ ap searched (same ∙ left_all p at n)
+
 -- what is left to skip
 abbrev pub left_skip : (ℕ → Bool) → ℕ → ℕ → ℕ
 left_skip p end x = skipped p x ((end - x) / 8)

@@ -14,7 +14,7 @@ ghost use Rattle.tables.specs.View.{line_open, lines_of};
 ghost use Rattle.searches.specs.Tests.{searched, is_found, passing, skipped, open_byte, lost_at_end};
 
 use event::Range;
-use tables::Run;
+use tables::RunOf;
 
 // What a search over bytes or lines looks for, in the entries of two tables.
 #[derive(Clone, Copy)]
@@ -161,7 +161,10 @@ fn line_stop(b: usize, end: usize) -> usize
 // The lowest byte of a range whose interval is open, line by line. Lines that have no open byte by their last store and their last
 // write-back are passed over.
 #[inline(always)] // in both of its callers: the runs with and without epochs
-pub fn first_open<const E: usize>(run: &Run<E>, a: Range) -> Option<u16>
+pub fn first_open<const O: usize, const C: usize, const W: usize>(
+    run: &RunOf<O, C, W>,
+    a: Range,
+) -> Option<u16>
     ensures { result ≡
         searched
         (lowest_in
@@ -200,7 +203,9 @@ fn line_at_end(begin: u16, fence: u16, dirtied: u16, backed: u16) -> bool
 
 // The lowest byte of the window that was stored to after the outermost begin and whose interval is open. Lines not stored to after it, and
 // those that have no open byte, are passed over.
-pub fn first_since_begin<const E: usize>(run: &Run<E>) -> Option<u16>
+pub fn first_since_begin<const O: usize, const C: usize, const W: usize>(
+    run: &RunOf<O, C, W>,
+) -> Option<u16>
     ensures { result ≡
         searched
         (lowest

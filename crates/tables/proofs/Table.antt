@@ -64,6 +64,10 @@ module _ (f : ℕ → ℕ → ℕ) (at : ℕ) (xs : List ℕ) where
   pub changed_turn : (n : ℕ) {v : ℕ} {ys : List ℕ} → ys ≡ changed f at n xs → v ≡ f (at + n) (get_or ys (at + n) 0) → set ys (at + n) v ≡ changed f at (n + 1) xs
   changed_turn n e k = rw (k, e, changed_more n, changed_above n (at + n) (omega arith))
 
+  -- the loop's end
+  pub changed_done : (i n : ℕ) {ys : List ℕ} → i ≤ n → n ≤ i → ys ≡ changed f at i xs → ys ≡ changed f at n xs
+  changed_done i n h k e = let same : i ≡ n = omega arith in rw same at e
+
 -- a change of as many entries as one and then another has
 pub changed_add : (f : ℕ → ℕ → ℕ) (at m n : ℕ) (xs : List ℕ) → changed f at (m + n) xs ≡ changed f (at + m) n (changed f at m xs)
 unfolding changed

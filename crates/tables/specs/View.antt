@@ -34,11 +34,15 @@ run_of counts stored logged fenced opened closed written dirtied backed =
 abbrev pub no_counts : ℕ → Counts
 no_counts lines = record { lines = lines; events = 0; fences = 0; findings = 0; depth = 0; begin = 0; store = 0; fence = 0 }
 
--- the run in which nothing has happened, with so many entries for the epochs and the first write-backs
+-- the run in which nothing has happened, with so many entries for the opening and the closing epochs and the first write-backs
+abbrev pub fresh_run_of : (opened closed written lines : ℕ) → Run
+fresh_run_of opened closed written lines =
+    run_of (no_counts lines) (replicate 4096 0) (replicate 4096 0) (replicate 4096 0) (replicate opened 0) (replicate closed 0)
+    (replicate written 0) (replicate 64 0) (replicate 64 0)
+
+-- with so many for each of the three
 abbrev pub fresh_run : (entries lines : ℕ) → Run
-fresh_run entries lines =
-    run_of (no_counts lines) (replicate 4096 0) (replicate 4096 0) (replicate 4096 0) (replicate entries 0) (replicate entries 0)
-    (replicate entries 0) (replicate 64 0) (replicate 64 0)
+fresh_run entries lines = fresh_run_of entries entries entries lines
 
 -- the window's lines, at most those of the largest window: so no run leads past the end of a table
 abbrev pub lines_of : Counts → ℕ

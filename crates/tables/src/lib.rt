@@ -3,7 +3,7 @@
 
 ghost use Rattle.std.specs.Prelude.{◌≡◌};
 ghost use Rattle.tables.specs.Table.{in_tables};
-ghost use Rattle.tables.specs.View.{no_counts, fresh_run, lines_of, begin_after, store_after, line_open, since_store, interval_from, named_from};
+ghost use Rattle.tables.specs.View.{no_counts, fresh_run_of, lines_of, begin_after, store_after, line_open, since_store, interval_from, named_from};
 
 use event::{Interval, NamedInterval, Range};
 use std::marker::Model;
@@ -22,26 +22,30 @@ pub struct Counts {
 }
 
 // A run: its numbers, six tables over the bytes of the largest window and two over its lines. Findings go by the events alone. The epochs
-// and the first write-backs are what the answer of a byte asked has besides, and a run of which no byte is asked has none of their `E`
-// entries. Where a byte is stored to again, its entries of the earlier store stay: a closing fence and a write-back older than the last
-// store count for nothing, and so does the closing epoch then.
+// and the first write-backs are what the answer of a byte asked has besides: `O` entries for the opening epochs, `C` for the closing ones and
+// `W` for the first write-backs, as many as its maker gives them, and a run of which no byte is asked has none. Where a byte is stored to
+// again, its entries of the earlier store stay: a closing fence and a write-back older than the last store count for nothing, and so does the
+// closing epoch then.
 // stays: an array for each table, and 0 in it for none, since per-byte arrays that begin as `[0; 4096]` are the form of document 01
 // (docs/DECISIONS.md), and specs/ goes by it
 #[derive(Clone, Copy)]
-pub struct Run<const E: usize> {
+pub struct RunOf<const O: usize, const C: usize, const W: usize> {
     pub counts: Counts,
     pub stored: [u16; 4096], // a byte's last store
     pub logged: [u16; 4096], // a byte's last log
     pub fenced: [u16; 4096], // the fence that closed its interval
-    pub opened: [u16; E], // the epoch at which its interval opened
-    pub closed: [u16; E], // the epoch at which it closed
-    pub written: [u16; E], // the first write-back of its line after its last store
+    pub opened: [u16; O], // the epoch at which its interval opened
+    pub closed: [u16; C], // the epoch at which it closed
+    pub written: [u16; W], // the first write-back of its line after its last store
     pub dirtied: [u16; 64], // the last store to a line
     pub backed: [u16; 64], // the last write-back of a line
 }
 
+// A run whose tables of epochs and first write-backs have as many entries as one another.
+pub type Run<const E: usize> = RunOf<E, E, E>;
+
 // Clauses see a run as one record, however many entries it has.
-impl<const E: usize> Model for Run<E> {
+impl<const O: usize, const C: usize, const W: usize> Model for RunOf<O, C, W> {
     ghost use Rattle.tables.specs.Run.{Run};
     ghost use Rattle.tables.specs.View.{run_of};
 
@@ -62,19 +66,19 @@ impl<const E: usize> Model for Run<E> {
     } };
 }
 
-impl<const E: usize> Run<E> {
+impl<const O: usize, const C: usize, const W: usize> RunOf<O, C, W> {
     // A run in which nothing has happened.
     pub fn fresh(lines: u16) -> Self
-        ensures { result ≡ fresh_run E lines }
+        ensures { result ≡ fresh_run_of O C W lines }
     {
-        Run {
+        RunOf {
             counts: no_counts(lines),
             stored: [0; 4096],
             logged: [0; 4096],
             fenced: [0; 4096],
-            opened: [0; E],
-            closed: [0; E],
-            written: [0; E],
+            opened: [0; O],
+            closed: [0; C],
+            written: [0; W],
             dirtied: [0; 64],
             backed: [0; 64],
         }

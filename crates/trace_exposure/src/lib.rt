@@ -7,16 +7,24 @@ ghost use Rattle.trace_exposure.specs.TraceExposure.{exposure_by, trace_exposure
 
 use event::TraceRefusal;
 use exposure::Mean;
-use tables::Run;
+use tables::RunOf;
 use trailer::opening;
 
-// The records given to a fresh window, and the run after them asked. No finding is kept: the buffer has no byte.
+// The records followed from a fresh window, and the run after them asked. Nobody asks for findings, and no mean goes by the first
+// write-backs, so the run has no entry for them.
 fn records_exposure(records: &[u8], count: u32, lines: u16) -> Result<Mean, TraceRefusal>
     ensures { result ≡ exposure_by (all_judged count lines records.now []) }
 {
-    let mut run = Run::fresh(lines);
-    pass::give_records(records, count, &mut run, &mut [])?;
-    Ok(exposure::exposure(&run)?)
+    let mut run = RunOf::<4096, 4096, 0>::fresh(lines);
+    pass::follow_records(records, count, &mut run)?;
+    let mean = exposure::exposure_of(
+        run.counts,
+        &run.stored,
+        &run.fenced,
+        &run.opened,
+        &run.closed,
+    )?;
+    Ok(mean)
 }
 
 // The mean exposure of a trace, or the first of 1 to 13 and 17 that applies.

@@ -75,7 +75,7 @@ fn sites_of(records: &[u8], count: u32, i: NamedInterval) -> Sites
     }
 }
 
-// The records given to a fresh window, and the run after them asked. No finding is kept: the buffer has no byte.
+// The records followed from a fresh window, and the run after them asked. Nobody asks for findings.
 fn records_interval(
     records: &[u8],
     count: u32,
@@ -86,7 +86,7 @@ fn records_interval(
         interval_by (records_of count records.now) (all_judged count lines records.now []) byte }
 {
     let mut run = Run::fresh(lines);
-    pass::give_records(records, count, &mut run, &mut [])?;
+    pass::follow_records(records, count, &mut run)?;
     let interval = engine::ask(&run, byte)?;
     Ok(SitedInterval {
         interval,

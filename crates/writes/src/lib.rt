@@ -12,7 +12,7 @@ ghost use Rattle.writes.specs.Fenced.{fence_now, fenced_by};
 
 use event::Range;
 use searches::Test;
-use tables::Run;
+use tables::RunOf;
 
 // The n entries from `at` on become x.
 fn fill(xs: &mut [u16], at: usize, n: usize, x: u16)
@@ -97,7 +97,10 @@ fn close_some(
 }
 
 // The bytes of the window after the fence. Eight lines of which none was written back since the last fence are passed over.
-pub fn close_lines<const E: usize>(run: &mut Run<E>, number: u16)
+pub fn close_lines<const O: usize, const C: usize, const W: usize>(
+    run: &mut RunOf<O, C, W>,
+    number: u16,
+)
     ensures { run.new ≡
         run_of run.old.counts run.old.stored run.old.logged
         (changed

@@ -1,24 +1,6 @@
--- `events::store` meets its contract: its finding, and the numbers and tables that its calls ensure.
-use Rattle.tables.proofs.InTables.{in_tables_address, in_tables_length, in_tables_lem}
-use Rattle.events.specs.Next.{counts_after, tables_after}
+-- `events::store` meets its contract: its finding is that of its bytes, which the tables have.
+use Rattle.tables.proofs.InTables.{in_tables_lem}
 use Rattle.events.proofs.store.Goals as goal
 
 pub returns-clause-value : goal.returns-clause-value
 returns-clause-value g c = rw (c.of_store-finding.ensures, in_tables_lem c.args.a c.requires.1)
-
-pub returns-clause-run_after : goal.returns-clause-run_after
-unfolding counts_after tables_after
-returns-clause-run_after g c =
-    let address = in_tables_address c.args.a c.requires.1 in
-    let length = in_tables_length c.args.a c.requires.1 in
-    let tables = c.store.ensures in
-    rw (
-      ← c.run.view_is,
-      c.store_after.ensures,
-      c.open_bytes.ensures,
-      tables.stored_after,
-      tables.dirtied_after,
-      c.counted-next.ensures,
-      address,
-      length,
-    )

@@ -4,4 +4,4 @@ use Rattle.exposure.proofs.Total.{SumsAt}
 use Rattle.exposure.proofs.sum_bytes.Given as goal
 
 abbrev pub invariant-loop-b : goal.invariant-loop-b
-invariant-loop-b l = SumsAt (interval_in l.run.stored l.run.fenced l.run.opened l.run.closed) l.b l.epochs l.count
+invariant-loop-b l = SumsAt (interval_in l.stored l.fenced l.opened l.closed) l.b l.epochs l.count

@@ -1,10 +1,12 @@
 -- `judge::judge_by` meets its contract: the run that it lends is that of a fresh window, without the tables that no finding goes by.
+use mathlib.Core.Path.{refl, ◌∙◌}
+use native.Mathlib.Omega.{arith}
 use Rattle.std.proofs.lemmas.Result.{err_from_is_err_and}
 use Prim.Native.Nat.{◌*◌}
 use Rattle.codec.specs.Codec.{finding_size}
 use Rattle.pass.specs.Pass.{all_judged}
 use Rattle.pass.proofs.Fresh.{same_bare}
-use Rattle.judge.proofs.Ends.{ends_refused, ends_passed, ends_buffer}
+use Rattle.judge.proofs.Ends.{ends_refused, ends_passed, ends_buffer, ends_put}
 use Rattle.judge.proofs.judge_by.Goals as goal
 
 pub returns-in_err-give_records-clause-value : goal.returns-in_err-give_records-clause-value
@@ -34,7 +36,7 @@ returns-clause-value c =
     let same = same_bare k.count k.lines k.records.now k.buffer.now c.fresh-run.ensures in
     let check = c.in_ok-give_records.ensures.check_value in
     let held = c.give_records.ensures.buffer_after in
-    rw (← c.run.view_is) at (ends_passed (finding_size * k.count) k.area.now e same check held c.copy_from_slice.ensures.after).0
+    rw (← c.run.view_is) at (ends_passed (finding_size * k.count) k.area.now e same check held refl).0
 
 pub returns-clause-buffer_after : goal.returns-clause-buffer_after
 returns-clause-buffer_after c =
@@ -48,4 +50,5 @@ returns-clause-area_after c =
     let same = same_bare k.count k.lines k.records.now k.buffer.now c.fresh-run.ensures in
     let check = c.in_ok-give_records.ensures.check_value in
     let held = c.give_records.ensures.buffer_after in
-    (ends_passed (finding_size * k.count) k.area.now e same check held c.copy_from_slice.ensures.after).1
+    let size = finding_size * k.count in
+    c.put.ensures ∙ ends_put size _ k.area.now (omega arith) (omega arith) ∙ (ends_passed size k.area.now e same check held refl).1

@@ -1,0 +1,11 @@
+-- `events::take_back` meets its contract: the numbers and tables that its calls ensure.
+use Rattle.tables.proofs.InTables.{in_tables_address, in_tables_length}
+use Rattle.events.specs.Next.{counts_after, tables_after}
+use Rattle.events.proofs.take_back.Goals as goal
+
+pub returns : goal.returns
+unfolding counts_after tables_after
+returns g c =
+    let address = in_tables_address c.args.a c.requires.1 in
+    let length = in_tables_length c.args.a c.requires.1 in
+    rw (← c.run.view_is, c.write_back.ensures, c.fill_lines.ensures, c.counted-next.ensures, address, length)

@@ -1,5 +1,0 @@
--- `Run::fresh` meets its contract: it is the definition.
-use Rattle.tables.proofs.Run.fresh.Goals as goal
-
-pub returns : goal.returns
-returns g c = rw c.no_counts.ensures
