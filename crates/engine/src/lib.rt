@@ -6,7 +6,7 @@ ghost use Rattle.events.specs.Give.{give_of};
 ghost use Rattle.engine.specs.Call.{fresh_of, ask_of, close_of};
 
 use event::{Finding, NamedInterval, Range, Record, Refusal, Totals};
-use tables::Run;
+use tables::{Run, lend};
 
 // A fresh window: what the check of its lines says, and the run.
 // stays: a refused window hands over a run too, of one line (`fresh_of` says so), which a Result would not have
@@ -37,7 +37,7 @@ pub fn give(run: &mut Run<4096>, r: Record) -> Result<Finding, Refusal>
     ensures answer { result ≡ (give_of run.old r).answer }
     ensures run_after { run.new ≡ (give_of run.old r).run }
 {
-    events::step(run, r)
+    events::step(&mut lend!(run), r)
 }
 
 // The persist interval of a byte with its events, or 9 where the byte is past the window.

@@ -9,7 +9,7 @@ use native.Mathlib.Omega.{arith}
 use lib.Dec.{eqb, ltb, leb}
 use borrow.Author.Tests.{eq-eqb, ne_eqb}
 use Rattle.event.specs.declared.Range.{Range}
-use Rattle.event.specs.declared.Event.TheVariants.{Store, WriteBack, End, Persisted, Ordered}
+use Rattle.event.specs.declared.Event.TheVariants.{Store, WriteBack, Log, End, Persisted, Ordered}
 use Rattle.event.specs.declared.Finding.TheVariants.{None, Unlogged}
 use Rattle.window.specs.Window.{line_of, word_of}
 use Rattle.ranges.specs.Ranges.{line_count}
@@ -108,3 +108,19 @@ module _ (run : Run) where
       go : (found : Option Pair) → in_order (of_run run) found ≡ in_order (of_run (run_of (no_counts 0) run.stored [] run.fenced [] [] [] [] [])) found
       go none = refl
       go (some p) = refl
+
+  -- a store and a log go by the numbers and the last logs alone
+  pub store_tables : (a : Range) → finding_by (of_run run) (Store a) ≡ finding_by (of_run (run_of run.counts [] run.logged [] [] [] [] [] [])) (Store a)
+  unfolding finding_by
+  store_tables a = refl
+
+  pub log_tables : (a : Range) → finding_by (of_run run) (Log a) ≡ finding_by (of_run (run_of run.counts [] run.logged [] [] [] [] [] [])) (Log a)
+  unfolding finding_by
+  log_tables a = refl
+
+  -- and a write-back by the last stores and write-backs of lines
+  pub back_tables : (a : Range) →
+      finding_by (of_run run) (WriteBack a) ≡
+      finding_by (of_run (run_of (no_counts 0) [] [] [] [] [] [] run.dirtied run.backed)) (WriteBack a)
+  unfolding finding_by
+  back_tables a = refl

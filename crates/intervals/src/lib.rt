@@ -1,19 +1,19 @@
 // Writes to the tables that no finding goes by: the epochs at which intervals opened and closed, and the first write-backs. Who asks no byte
 // lends shorter tables, or empty ones: an entry that a table lacks is not written.
 //
-// stays: a store and a write-back are lent the tables that they change and read by themselves, as in `writes`, and where they write and how many
-// entries are two numbers, as in `changed`.
+// stays: a store, a write-back and a fence are lent the tables that they change and read by themselves, as in `writes`, and where they write and
+// how many entries are two numbers, as in `changed`.
 #![tactic(auto)]
 
 ghost use Rattle.std.specs.Prelude.{◌≡◌, ◌+◌, ◌-◌, ◌≤◌, min, length};
 ghost use Rattle.window.specs.Window.{window_bytes, line_of};
 ghost use Rattle.ranges.specs.Ranges.{line_count};
 ghost use Rattle.tables.specs.Table.{changed, filled_bytes, in_tables};
-ghost use Rattle.tables.specs.View.{lines_of, run_of};
+ghost use Rattle.tables.specs.View.{lines_of};
 ghost use Rattle.intervals.specs.Now.{back_now, epoch_now, backed_now, closed_now};
 
 use event::Range;
-use tables::RunOf;
+use tables::Counts;
 
 // How many of n entries from `at` on a table of this length has.
 fn room(at: usize, n: usize, length: usize) -> usize
@@ -76,21 +76,30 @@ fn epoch_now(number: u16, epoch: u16, fence: u16, old: u16) -> u16
     if fence == number { epoch } else { old }
 }
 
+// The first n bytes after it, or as many as the table has.
+#[inline(never)] // one copy of the loop: in `pmexposure`, where it was compiled into `main`, it took an eighth more instructions
+fn close_bytes(closed: &mut [u16], fenced: &[u16; 4096], n: usize, number: u16, epoch: u16)
+    requires { n ≤ 4096 }
+    ensures { closed.new ≡ changed (closed_now number epoch fenced.now) 0 n closed.old }
+{
+    for b in 0..closed.len().min(n) {
+        closed[b] = epoch_now(number, epoch, fenced[b], closed[b]);
+    }
+}
+
 // A fence: the bytes of the window, by the closing fences after it.
-#[inline(never)] // one copy of the loop: in the programs, where it was compiled into their `main`, it took a quarter more instructions
-pub fn close_epochs<const O: usize, const C: usize, const W: usize>(
-    run: &mut RunOf<O, C, W>,
+pub fn close_epochs(
+    closed: &mut [u16],
+    fenced: &[u16; 4096],
+    counts: Counts,
     number: u16,
     epoch: u16,
 )
-    ensures { run.new ≡
-        run_of run.old.counts run.old.stored run.old.logged run.old.fenced run.old.opened
-        (changed (closed_now number epoch run.old.fenced) 0 (window_bytes (lines_of run.old.counts)) run.old.closed)
-        run.old.written run.old.dirtied run.old.backed }
+    ensures { closed.new ≡ changed (closed_now number epoch fenced.now) 0 (window_bytes (lines_of counts)) closed.old }
 {
-    let lines = tables::lines_of(run.counts) as usize;
-    let closed = &mut run.closed;
-    for b in 0..C.min(lines * 64) {
-        closed[b] = epoch_now(number, epoch, run.fenced[b], closed[b]);
+    if closed.len() == 0 {
+        return;
     }
+    let lines = tables::lines_of(counts) as usize;
+    close_bytes(closed, fenced, lines * 64, number, epoch);
 }

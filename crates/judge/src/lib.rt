@@ -8,7 +8,7 @@ ghost use Rattle.pass.specs.Pass.{all_judged};
 ghost use Rattle.judge.specs.Ends.{long_buffer, buffer_for, verdict_by, area_by};
 
 use event::{Refusal, Totals, TraceRefusal};
-use tables::Run;
+use tables::{Run, lend};
 use trailer::opening;
 
 // The records judged into a buffer, and the findings then copied to the area, where nothing is refused. No byte will be asked, so the run
@@ -27,7 +27,7 @@ fn judge_by(
         area_by (finding_size * count) (all_judged count lines records.now buffer.old) area.old }
 {
     let mut run = Run::<0>::fresh(lines);
-    pass::give_records(records, count, &mut run, buffer)?;
+    pass::give_records(records, count, &mut lend!(run), buffer)?;
     let size = 12 * (count as usize);
     // stays: put byte by byte, since `copy_from_slice` of a length that is not known here calls memmove, which the archive for C would have
     // to find outside.

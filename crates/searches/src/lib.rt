@@ -14,7 +14,16 @@ ghost use Rattle.tables.specs.View.{line_open, lines_of};
 ghost use Rattle.searches.specs.Tests.{searched, is_found, passing, skipped, open_byte, lost_at_end};
 
 use event::Range;
-use tables::RunOf;
+use tables::Counts;
+
+// The tables by which a byte's interval is open or closed.
+#[derive(Clone, Copy)]
+pub struct RiskTables<'a> {
+    pub stored: &'a [u16; 4096],
+    pub fenced: &'a [u16; 4096],
+    pub dirtied: &'a [u16; 64],
+    pub backed: &'a [u16; 64],
+}
 
 // What a search over bytes or lines looks for, in the entries of two tables.
 #[derive(Clone, Copy)]
@@ -160,31 +169,32 @@ fn line_stop(b: usize, end: usize) -> usize
 
 // The lowest byte of a range whose interval is open, line by line. Lines that have no open byte by their last store and their last
 // write-back are passed over.
-#[inline(always)] // in both of its callers: the runs with and without epochs
-pub fn first_open<const O: usize, const C: usize, const W: usize>(
-    run: &RunOf<O, C, W>,
-    a: Range,
-) -> Option<u16>
+pub fn first_open(fence: u16, tables: RiskTables<'_>, a: Range) -> Option<u16>
     ensures { result ≡
         searched
         (lowest_in
-        (open_byte run.now.counts.fence run.now.stored run.now.fenced run.now.dirtied run.now.backed)
+        (open_byte fence tables.entry.stored.now tables.entry.fenced.now tables.entry.dirtied.now tables.entry.backed.now)
         (in_tables a)) }
 {
-    let part = tables::in_tables(a);
+    let RiskTables {
+        stored,
+        fenced,
+        dirtied,
+        backed,
+    } = tables;
     let open = Entries {
         test: Test::Open,
-        xs: &run.stored,
-        ys: &run.fenced,
+        xs: stored,
+        ys: fenced,
     };
-    let fence = run.counts.fence;
+    let part = tables::in_tables(a);
     let mut b = part.address as usize;
     let end = b + part.length as usize;
     // stays: each turn ends where its line or the range does, so a `for` over the lines would work out both ends of each
     while b < end {
         let l = b / 64;
         let stop = line_stop(b, end);
-        if tables::line_open(fence, run.dirtied[l], run.backed[l]) {
+        if tables::line_open(fence, dirtied[l], backed[l]) {
             if any(&open, b, stop - b) {
                 return first(&open, b, stop - b);
             }
@@ -203,26 +213,30 @@ fn line_at_end(begin: u16, fence: u16, dirtied: u16, backed: u16) -> bool
 
 // The lowest byte of the window that was stored to after the outermost begin and whose interval is open. Lines not stored to after it, and
 // those that have no open byte, are passed over.
-pub fn first_since_begin<const O: usize, const C: usize, const W: usize>(
-    run: &RunOf<O, C, W>,
-) -> Option<u16>
+pub fn first_since_begin(counts: Counts, tables: RiskTables<'_>) -> Option<u16>
     ensures { result ≡
         searched
         (lowest
-        (lost_at_end run.now.counts.begin run.now.counts.fence run.now.stored run.now.fenced run.now.dirtied run.now.backed)
+        (lost_at_end counts.begin counts.fence tables.entry.stored.now tables.entry.fenced.now tables.entry.dirtied.now tables.entry.backed.now)
         0
-        (window_bytes (lines_of run.now.counts))) }
+        (window_bytes (lines_of counts))) }
 {
-    let begin = run.counts.begin;
-    let fence = run.counts.fence;
-    let lines = tables::lines_of(run.counts) as usize;
+    let begin = counts.begin;
+    let fence = counts.fence;
+    let lines = tables::lines_of(counts) as usize;
+    let RiskTables {
+        stored,
+        fenced,
+        dirtied,
+        backed,
+    } = tables;
     let lost = Entries {
         test: Test::OpenSince(begin),
-        xs: &run.stored,
-        ys: &run.fenced,
+        xs: stored,
+        ys: fenced,
     };
     for l in 0..lines {
-        if line_at_end(begin, fence, run.dirtied[l], run.backed[l]) {
+        if line_at_end(begin, fence, dirtied[l], backed[l]) {
             let at = window::line_start(l as u16) as usize;
             if let Some(b) = first(&lost, at, 64) {
                 return Some(b);

@@ -85,6 +85,40 @@ impl<const O: usize, const C: usize, const W: usize> RunOf<O, C, W> {
     }
 }
 
+// A run that the caller lends part by part: its numbers and its tables, each wherever it stands, and as many entries for the opening epochs, the
+// closing ones and the first write-backs as the caller has.
+#[derive(Drop)]
+pub struct LentRun<'a> {
+    pub counts: &'a mut Counts,
+    pub stored: &'a mut [u16; 4096],
+    pub logged: &'a mut [u16; 4096],
+    pub fenced: &'a mut [u16; 4096],
+    pub opened: &'a mut [u16],
+    pub closed: &'a mut [u16],
+    pub written: &'a mut [u16],
+    pub dirtied: &'a mut [u16; 64],
+    pub backed: &'a mut [u16; 64],
+}
+
+// The parts of a `RunOf`, lent. Where its lengths are parameters of a type, today's check ties the three slices to nothing: there a function
+// that takes slices makes the `LentRun`.
+#[macro_export]
+macro_rules! lend {
+    ($run:expr) => {
+        $crate::LentRun {
+            counts: &mut $run.counts,
+            stored: &mut $run.stored,
+            logged: &mut $run.logged,
+            fenced: &mut $run.fenced,
+            opened: &mut $run.opened,
+            closed: &mut $run.closed,
+            written: &mut $run.written,
+            dirtied: &mut $run.dirtied,
+            backed: &mut $run.backed,
+        }
+    };
+}
+
 // The numbers of a run in which nothing has happened.
 pub fn no_counts(lines: u16) -> Counts
     ensures { result ≡ no_counts lines }

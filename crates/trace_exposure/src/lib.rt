@@ -7,7 +7,7 @@ ghost use Rattle.trace_exposure.specs.TraceExposure.{exposure_by, trace_exposure
 
 use event::TraceRefusal;
 use exposure::Mean;
-use tables::RunOf;
+use tables::{RunOf, lend};
 use trailer::opening;
 
 // The records followed from a fresh window, and the run after them asked. Nobody asks for findings, and no mean goes by the first
@@ -16,7 +16,7 @@ fn records_exposure(records: &[u8], count: u32, lines: u16) -> Result<Mean, Trac
     ensures { result ≡ exposure_by (all_judged count lines records.now []) }
 {
     let mut run = RunOf::<4096, 4096, 0>::fresh(lines);
-    pass::follow_records(records, count, &mut run)?;
+    pass::follow_records(records, count, &mut lend!(run))?;
     let mean = exposure::exposure_of(
         run.counts,
         &run.stored,

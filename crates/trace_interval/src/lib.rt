@@ -7,7 +7,7 @@ ghost use Rattle.pass.specs.Pass.{all_judged};
 ghost use Rattle.trace_interval.specs.TraceInterval.{site_in, sites_in, interval_by, trace_interval_of};
 
 use event::{NamedInterval, TraceRefusal};
-use tables::Run;
+use tables::{Run, lend};
 use trailer::opening;
 
 // The sites of the last store, of the first write-back after it and of the closing fence; 0 where the interval names none.
@@ -86,7 +86,7 @@ fn records_interval(
         interval_by (records_of count records.now) (all_judged count lines records.now []) byte }
 {
     let mut run = Run::fresh(lines);
-    pass::follow_records(records, count, &mut run)?;
+    pass::follow_records(records, count, &mut lend!(run))?;
     let interval = engine::ask(&run, byte)?;
     Ok(SitedInterval {
         interval,

@@ -1,18 +1,18 @@
 // Writes to tables that the caller lends. A range stands for the part of it that the tables have.
 //
-// stays: a store or a log is lent the tables that it changes by themselves: over a run its clause would have to name every part that stays, as
-// that of `close_lines` does, where a fence reads three parts. Where they are filled and how many entries are two numbers, as in `filled`.
+// stays: a store, a log and a fence are lent the tables that they change and read by themselves: over a run their clauses would have to name
+// every part that stays. Where they are filled and how many entries are two numbers, as in `filled`.
 #![tactic(auto)]
 
 ghost use Rattle.std.specs.Prelude.{◌≡◌, ◌+◌, ◌-◌, ◌≤◌, length};
 ghost use Rattle.window.specs.Window.{window_bytes};
 ghost use Rattle.tables.specs.Table.{entry, changed, filled, filled_bytes, filled_lines, in_tables};
-ghost use Rattle.tables.specs.View.{lines_of, run_of};
+ghost use Rattle.tables.specs.View.{lines_of};
 ghost use Rattle.writes.specs.Fenced.{fence_now, fenced_by};
 
 use event::Range;
 use searches::Test;
-use tables::RunOf;
+use tables::Counts;
 
 // The n entries from `at` on become x.
 fn fill(xs: &mut [u16], at: usize, n: usize, x: u16)
@@ -97,27 +97,27 @@ fn close_some(
 }
 
 // The bytes of the window after the fence. Eight lines of which none was written back since the last fence are passed over.
-pub fn close_lines<const O: usize, const C: usize, const W: usize>(
-    run: &mut RunOf<O, C, W>,
+#[inline(always)] // into each loop over records, where it is known that the tables lie apart
+pub fn close_lines(
+    fenced: &mut [u16; 4096],
+    stored: &[u16; 4096],
+    backed: &[u16; 64],
+    counts: Counts,
     number: u16,
 )
-    ensures { run.new ≡
-        run_of run.old.counts run.old.stored run.old.logged
-        (changed
-        (fenced_by run.old.counts.fence number run.old.stored run.old.backed) 0 (window_bytes (lines_of run.old.counts))
-        run.old.fenced)
-        run.old.opened run.old.closed run.old.written run.old.dirtied run.old.backed }
+    ensures { fenced.new ≡
+        changed (fenced_by counts.fence number stored.now backed.now) 0 (window_bytes (lines_of counts))
+        fenced.old }
 {
-    let fence = run.counts.fence;
-    let end = tables::lines_of(run.counts) as usize;
-    let fenced = &mut run.fenced;
+    let fence = counts.fence;
+    let end = tables::lines_of(counts) as usize;
     let mut l = 0;
     // stays: slower (the bar stands in docs/PERFORMANCE.md): with a `for` over the groups large persisted takes 631,988 instructions against 606,776
     while l + 8 <= end {
-        if searches::any_of_eight(Test::Since(fence), &run.backed, &run.backed, l) {
-            close_some(fenced, &run.stored, &run.backed, l, l + 8, fence, number);
+        if searches::any_of_eight(Test::Since(fence), backed, backed, l) {
+            close_some(fenced, stored, backed, l, l + 8, fence, number);
         }
         l += 8;
     }
-    close_some(fenced, &run.stored, &run.backed, l, end, fence, number);
+    close_some(fenced, stored, backed, l, end, fence, number);
 }

@@ -6,8 +6,8 @@ use Rattle.events.proofs.begin.Goals as goal
 
 pub returns-clause-value : goal.returns-clause-value
 unfolding finding_by
-returns-clause-value g c = cc
+returns-clause-value c = cc
 
 pub returns-clause-run_after : goal.returns-clause-run_after
 unfolding counts_after tables_after
-returns-clause-run_after g c = rw (← c.run.view_is, c.begin_after.ensures, c.counted-next.ensures, add-one)
+returns-clause-run_after c = rw (c.begin_after.ensures, c.counted-next.ensures, add-one)

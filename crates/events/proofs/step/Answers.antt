@@ -2,25 +2,26 @@
 use Rattle.std.proofs.Common.{sym}
 use Rattle.std.proofs.lemmas.Result.{err_from_is_err_and}
 use Rattle.events.proofs.Steps.{by_check}
+use Rattle.tables.specs.Lent.{lent}
 use Rattle.events.proofs.step.Goals as goal
 
 pub returns-in_err-check_event-clause-answer : goal.returns-in_err-check_event-clause-answer
-returns-in_err-check_event-clause-answer g c =
+returns-in_err-check_event-clause-answer c =
     let p = err_from_is_err_and c.from_residual.result c.from_residual.ensures.1 in
     let refused = sym (rw c.lines_of.ensures at c.in_err-check_event.ensures) in
-    rw (p.1, p.2, by_check c.args.run.now c.args.r c.run.view_is refused)
+    rw (p.1, p.2, by_check (lent c.args.run.now) c.args.r refused)
 
 pub returns-in_err-check_event-clause-run_after : goal.returns-in_err-check_event-clause-run_after
-returns-in_err-check_event-clause-run_after g c =
+returns-in_err-check_event-clause-run_after c =
     let refused = sym (rw c.lines_of.ensures at c.in_err-check_event.ensures) in
-    rw (by_check c.args.run.now c.args.r c.run.view_is refused)
+    rw (by_check (lent c.args.run.now) c.args.r refused)
 
 pub returns-clause-answer : goal.returns-clause-answer
-returns-clause-answer g c =
+returns-clause-answer c =
     let taken = sym (rw c.lines_of.ensures at c.in_ok-check_event.ensures) in
-    rw (c.accept.ensures.value, by_check c.args.run.now c.args.r c.run.view_is taken)
+    rw (c.accept.ensures.value, by_check (lent c.args.run.now) c.args.r taken)
 
 pub returns-clause-run_after : goal.returns-clause-run_after
-returns-clause-run_after g c =
+returns-clause-run_after c =
     let taken = sym (rw c.lines_of.ensures at c.in_ok-check_event.ensures) in
-    rw (c.accept.ensures.run_after, c.accept.ensures.value, by_check c.args.run.now c.args.r c.run.view_is taken)
+    rw (c.accept.ensures.run_after, c.accept.ensures.value, by_check (lent c.args.run.now) c.args.r taken)

@@ -3,6 +3,6 @@ use Rattle.std.proofs.Common.{sub-one}
 use Rattle.events.specs.Next.{counts_after, tables_after}
 use Rattle.events.proofs.take_end.Goals as goal
 
-pub returns : goal.returns
+pub returns-clause-run_after : goal.returns-clause-run_after
 unfolding counts_after tables_after
-returns g c = rw (← c.run.view_is, c.counted.ensures, sub-one)
+returns-clause-run_after c = rw (c.counted.ensures, sub-one)

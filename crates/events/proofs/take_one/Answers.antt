@@ -1,5 +1,5 @@
 -- `events::take_one` meets its contract: one event more, and nothing else.
 use Rattle.events.proofs.take_one.Goals as goal
 
-pub returns : goal.returns
-returns g c = rw (← c.run.view_is, c.counted-run-inside.ensures)
+pub returns-clause-run_after : goal.returns-clause-run_after
+returns-clause-run_after c = rw (c.counted-run.ensures)

@@ -3,14 +3,13 @@ use Rattle.tables.proofs.InTables.{in_tables_address, in_tables_length}
 use Rattle.events.specs.Next.{counts_after, tables_after}
 use Rattle.events.proofs.take_store.Goals as goal
 
-pub returns : goal.returns
+pub returns-clause-run_after : goal.returns-clause-run_after
 unfolding counts_after tables_after
-returns g c =
+returns-clause-run_after c =
     let address = in_tables_address c.args.a c.requires.1 in
     let length = in_tables_length c.args.a c.requires.1 in
     let tables = c.store.ensures in
     rw (
-      ← c.run.view_is,
       c.store_after.ensures,
       c.open_bytes.ensures,
       tables.stored_after,

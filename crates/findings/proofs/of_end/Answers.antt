@@ -7,14 +7,13 @@ use Rattle.searches.proofs.Searched.{found_by_lem, lowest_below}
 use Rattle.findings.proofs.of_end.Goals as goal
 
 pub lost_at-requires : goal.lost_at-requires
-lost_at-requires g c = λ b h. omega (arith, lowest_below _ _ _ (sym (found_by_lem _ c.first_since_begin-s.ensures) ∙ h))
+lost_at-requires c = λ b h. omega (arith, lowest_below _ _ _ (sym (found_by_lem _ c.first_since_begin-s.ensures) ∙ h))
 
 pub returns : goal.returns
-returns g c =
+returns c =
     rw (
       ← found_by_lem _ c.first_since_begin-s.ensures,
-      ← c.run.view_is,
-      eq-eqb _ 1 c.if-run-ne1.false,
-      lt-ltb _ _ c.if-run.false,
+      eq-eqb _ 1 c.if-counts-ne1.false,
+      lt-ltb _ _ c.if-counts.false,
       c.lost_at.ensures,
     )

@@ -6,8 +6,8 @@ use Rattle.findings.proofs.of_log.Goals as goal
 
 pub returns-in-None : goal.returns-in-None
 unfolding finding_by
-returns-in-None g c = rw (← c.run.view_is, found_none _ refl c.in-None.ensures)
+returns-in-None c = rw (found_none _ refl c.in-None.ensures)
 
 pub returns-in-Some : goal.returns-in-Some
 unfolding finding_by
-returns-in-Some g c = rw (← c.run.view_is, found_some _ refl c.in-Some.ensures)
+returns-in-Some c = rw (found_some _ refl c.in-Some.ensures)

@@ -44,36 +44,31 @@ module _ (line bytes : ℕ → Bool) (at n byte stop : ℕ) (same : left (by_lin
     found_there e found = part_found (by_line line bytes) at n byte same (stop - byte) (omega arith) (rw looked at e) (rw looked at found)
 
 pub returns-then-any : goal.returns-then-any
-returns-then-any g c =
-    let r = c.run.inside in
-    let before = rw (← c.run.view_is) at c.loop-b.invariant.2 in
+returns-then-any c =
+    let r = c.args.tables in
     let s = c.line_stop-stop.ensures in
     let fits = ap range_end c.in_tables-part.ensures in
-    rw (← c.run.view_is)
-    (rw c.in_tables-part.ensures at
-    (found_there (open_line r.counts.fence r.dirtied r.backed) (passing Open r.stored r.fenced) _ _ c.loop-b.b c.line_stop-stop.result before
-    (omega arith) (omega (arith, s, fits)) (omega (arith, s)) (omega (arith, s)) (sym c.if-line_open.ensures)
-    (sym c.if-any.ensures) c.first.ensures))
+    rw c.in_tables-part.ensures at
+    (found_there (open_line c.args.fence r.dirtied.now r.backed.now) (passing Open r.stored.now r.fenced.now) _ _ c.loop-b.b c.line_stop-stop.result
+    c.loop-b.invariant.2 (omega arith) (omega (arith, s, fits)) (omega (arith, s)) (omega (arith, s)) (sym c.if-line_open.ensures)
+    (sym c.if-any.ensures) c.first.ensures)
 
 pub loop-b-preserved-else-any : goal.loop-b-preserved-else-any
-loop-b-preserved-else-any g c =
-    let r = c.run.inside in
-    let before = rw (← c.run.view_is) at c.loop-b.invariant.2 in
+loop-b-preserved-else-any c =
+    let r = c.args.tables in
     let s = c.line_stop-stop.ensures in
     let fits = ap range_end c.in_tables-part.ensures in
-    rw (← c.run.view_is)
-    (none_there (open_line r.counts.fence r.dirtied r.backed) (passing Open r.stored r.fenced) _ _ c.loop-b.b c.line_stop-stop.result before
-    (omega arith) (omega (arith, s, fits)) (omega (arith, s)) (omega (arith, s)) (sym c.if-line_open.ensures) (sym c.if-any.ensures))
+    none_there (open_line c.args.fence r.dirtied.now r.backed.now) (passing Open r.stored.now r.fenced.now) _ _ c.loop-b.b c.line_stop-stop.result
+    c.loop-b.invariant.2 (omega arith) (omega (arith, s, fits)) (omega (arith, s)) (omega (arith, s)) (sym c.if-line_open.ensures)
+    (sym c.if-any.ensures)
 
 pub loop-b-preserved : goal.loop-b-preserved
-loop-b-preserved g c =
-    let r = c.run.inside in
-    let before = rw (← c.run.view_is) at c.loop-b.invariant.2 in
+loop-b-preserved c =
+    let r = c.args.tables in
     let s = c.line_stop-stop.ensures in
     let fits = ap range_end c.in_tables-part.ensures in
-    rw (← c.run.view_is)
-    (passed (open_line r.counts.fence r.dirtied r.backed) (passing Open r.stored r.fenced) _ _ c.loop-b.b c.line_stop-stop.result before
-    (omega arith) (omega (arith, s, fits)) (omega (arith, s)) (omega (arith, s)) (sym c.if-line_open.ensures))
+    passed (open_line c.args.fence r.dirtied.now r.backed.now) (passing Open r.stored.now r.fenced.now) _ _ c.loop-b.b c.line_stop-stop.result
+    c.loop-b.invariant.2 (omega arith) (omega (arith, s, fits)) (omega (arith, s)) (omega (arith, s)) (sym c.if-line_open.ensures)
 
 pub returns : goal.returns
-returns g c = rw c.in_tables-part.ensures at (found_nothing _ _ _ c.loop-b.b c.loop-b.invariant.2 (omega arith))
+returns c = rw c.in_tables-part.ensures at (found_nothing _ _ _ c.loop-b.b c.loop-b.invariant.2 (omega arith))

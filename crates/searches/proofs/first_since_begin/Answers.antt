@@ -13,26 +13,24 @@ use Rattle.searches.proofs.first_since_begin.Goals as goal
 use Rattle.searches.proofs.first_since_begin.Goals.{then-line_at_end+in_default, else-line_at_end}
 
 pub returns-in-Some : goal.returns-in-Some
-returns-in-Some g c =
-    let r = c.run.inside in
-    let before = rw (← c.run.view_is) at c.loop-l.invariant in
-    rw (← c.run.view_is)
-    (rw c.lines_of-lines.ensures at
-    (part_here _ 0 _ (c.loop-l.l * 64) before 64 (omega arith)
+returns-in-Some c =
+    let r = c.args.tables in
+    rw c.lines_of-lines.ensures at
+    (part_here _ 0 _ (c.loop-l.l * 64) c.loop-l.invariant 64 (omega arith)
     (found_some _ refl
-    (line_searched (line_at_end r.counts.begin r.counts.fence r.dirtied r.backed) (passing (OpenSince r.counts.begin) r.stored r.fenced)
-    c.loop-l.l (sym c.if-line_at_end.ensures) (omega arith) c.line_start-at.ensures c.in-Some.ensures))))
+    (line_searched (line_at_end c.args.counts.begin c.args.counts.fence r.dirtied.now r.backed.now)
+    (passing (OpenSince c.args.counts.begin) r.stored.now r.fenced.now) c.loop-l.l (sym c.if-line_at_end.ensures) (omega arith)
+    c.line_start-at.ensures c.in-Some.ensures)))
 
 pub loop-l-preserved : goal.loop-l-preserved
-loop-l-preserved g c =
-    let r = c.run.inside in
-    let before = rw (← c.run.view_is) at c.loop-l.invariant in
+loop-l-preserved c =
+    let r = c.args.tables in
     let l = c.loop-l.l in
-    let line = line_at_end r.counts.begin r.counts.fence r.dirtied r.backed in
-    let bytes = passing (OpenSince r.counts.begin) r.stored r.fenced in
+    let line = line_at_end c.args.counts.begin c.args.counts.fence r.dirtied.now r.backed.now in
+    let bytes = passing (OpenSince c.args.counts.begin) r.stored.now r.fenced.now in
     let next : (l + 1) * 64 ≡ l * 64 + 64 = omega arith in
-    rw (next, ← c.run.view_is)
-    (part_later _ 0 _ (l * 64) before 64 (omega arith)
+    rw next
+    (part_later _ 0 _ (l * 64) c.loop-l.invariant 64 (omega arith)
     (elim c.if-line_at_end.branch [
       | then-line_at_end+in_default w ↦
           found_none _ refl (line_searched line bytes l (sym w.if-line_at_end.ensures) (omega arith) w.line_start-at.ensures w.in_default.ensures)
@@ -40,6 +38,4 @@ loop-l-preserved g c =
     ]))
 
 pub returns : goal.returns
-returns g c =
-    let before = rw (← c.run.view_is) at c.loop-l.invariant in
-    rw (← c.run.view_is) (rw c.lines_of-lines.ensures at (found_nothing _ 0 _ (c.loop-l.l * 64) before (omega arith)))
+returns c = rw c.lines_of-lines.ensures at (found_nothing _ 0 _ (c.loop-l.l * 64) c.loop-l.invariant (omega arith))

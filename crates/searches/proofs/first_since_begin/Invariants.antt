@@ -8,5 +8,5 @@ use Rattle.searches.proofs.FromFront.{left}
 use Rattle.searches.proofs.first_since_begin.Given as goal
 
 abbrev pub invariant-loop-l : goal.invariant-loop-l
-invariant-loop-l g l =
-    let p = lost_at_end l.begin l.fence l.run.stored l.run.fenced l.run.dirtied l.run.backed in left p (0 + window_bytes l.lines) (l.l * 64) ≡ left p (0 + window_bytes l.lines) 0
+invariant-loop-l l =
+    let p = lost_at_end l.begin l.fence l.tables.stored.now l.tables.fenced.now l.tables.dirtied.now l.tables.backed.now in left p (0 + window_bytes l.lines) (l.l * 64) ≡ left p (0 + window_bytes l.lines) 0

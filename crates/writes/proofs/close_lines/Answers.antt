@@ -8,33 +8,27 @@ use Rattle.writes.proofs.close_lines.Goals as goal
 use Rattle.writes.proofs.close_lines.Goals.{then-any_of_eight, else-any_of_eight}
 
 pub loop-l-init : goal.loop-l-init
-loop-l-init g c =
-    let r = c.run.inside in
-    (omega arith, rw (← c.run.view_is) (lines_none r.counts.fence c.args.number r.stored r.backed 0 r.fenced))
+loop-l-init c = let a = c.args in (omega arith, lines_none a.counts.fence a.number a.stored.now a.backed.now 0 a.fenced.now)
 
 pub loop-l-preserved : goal.loop-l-preserved
-loop-l-preserved g c =
+loop-l-preserved c =
     let k = c.loop-l in
-    let r = c.run.inside in
-    let number = c.args.number in
-    let kept = rw (← c.run.view_is) at k.invariant.1 in (
+    let a = c.args in (
       omega arith,
-      rw (← c.run.view_is)
-          (lines_more r.counts.fence number r.stored r.backed 0 k.l _ r.fenced (omega arith) (omega arith) kept
+      lines_more a.counts.fence a.number a.stored.now a.backed.now 0 k.l _ a.fenced.now (omega arith) (omega arith) k.invariant.1
           (elim c.if-any_of_eight.branch [
             | then-any_of_eight w ↦ w.fenced-is ∙ w.close_some.ensures
             | else-any_of_eight w ↦
-                w.fenced-is ∙ eight_passed r.counts.fence number r.stored r.backed k.l k.fenced (omega arith) (sym w.if-any_of_eight.ensures)
-          ])),
+                w.fenced-is ∙
+                eight_passed a.counts.fence a.number a.stored.now a.backed.now k.l k.fenced (omega arith) (sym w.if-any_of_eight.ensures)
+          ]),
     )
 
 pub returns : goal.returns
-returns g c =
+returns c =
     let k = c.loop-l in
-    let r = c.run.inside in
+    let a = c.args in
     let end = c.lines_of-end.result in
-    let kept = rw (← c.run.view_is) at k.invariant.1 in
-    let all =
     rw (sub-zero end, c.lines_of-end.ensures) at
-    (lines_more r.counts.fence c.args.number r.stored r.backed 0 k.l end r.fenced (omega arith) (omega arith) kept c.close_some-2.ensures) in
-    rw (← c.run.view_is, all)
+    (lines_more a.counts.fence a.number a.stored.now a.backed.now 0 k.l end a.fenced.now (omega arith) (omega arith) k.invariant.1
+    c.close_some-2.ensures)

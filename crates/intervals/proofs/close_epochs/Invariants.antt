@@ -1,9 +1,0 @@
--- `intervals::close_epochs` meets its contract: the first b bytes are as after the fence, and those that the table lacks need not be.
--- Assumes nothing.
-use mathlib.Core.Path.{◌≡◌}
-use Rattle.tables.specs.Table.{changed}
-use Rattle.intervals.specs.Now.{closed_now}
-use Rattle.intervals.proofs.close_epochs.Given as goal
-
-abbrev pub invariant-loop-b : goal.invariant-loop-b
-invariant-loop-b g l = l.closed ≡ changed (closed_now l.number l.epoch l.fn.run.fenced) 0 l.b l.initial.closed
